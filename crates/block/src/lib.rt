@@ -1,0 +1,172 @@
+// The log block: its layout, its check, writing it to a slot and judging a slot. Layers above know the format only through
+// the contracts here and the laws of proofs/ about the definitions that they cite.
+mod check;
+mod judging;
+mod number;
+mod writing;
+
+ghost use mathlib.Core.Path.{_≡_};
+ghost use Prim.Native.Nat.{_≤_, _<_};
+ghost use lib.Dec.{leb, ltb};
+ghost use mathlib.Core.Bool.{_&&_};
+ghost use lib.ListN.{length};
+ghost use Rattle.block.specs.Sizes.{blockSize, newBytesMost, pageSize};
+ghost use Rattle.block.specs.Layout.{layout};
+ghost use Rattle.block.specs.Kind.{updateBlock, commitBlock, cleanBlock};
+ghost use Rattle.block.specs.Legal.{legalPlace};
+ghost use Rattle.block.specs.Slot.{judged, newBytesAt};
+
+// What a block does, with the fields that only this kind has.
+pub enum Kind {
+    // new bytes for a page: the update's place in its group, the page, where in it, how many bytes
+    Update {
+        index: usize,
+        page: usize,
+        offset: usize,
+        length: usize,
+    },
+    // the group of so many updates takes effect
+    Commit {
+        updates: usize,
+    },
+    // the page's committed bytes are at home
+    Clean {
+        page: usize,
+    },
+}
+
+// A block, but for its new bytes and its check.
+pub struct Block {
+    pub sequence: u64,
+    pub keep_from: u64,
+    pub kind: Kind,
+    pub ticket: u64,
+}
+
+// Bytes 16 to 25 of a block: the kind's number, and the fields with 0 where the kind has none.
+pub struct Fields {
+    pub kind: u64,
+    pub index: usize,
+    pub page: usize,
+    pub offset: usize,
+    pub length: usize,
+}
+
+// What a slot holds.
+pub enum Judged {
+    Unused,
+    Damaged,
+    Valid(Block),
+}
+
+impl Block {
+    // The bytes of a block, and of a slot.
+    pub const SIZE: usize = 512;
+
+    // The most new bytes that an update carries.
+    pub const NEW_BYTES: usize = 472;
+
+    // The bytes of a page.
+    pub const PAGE: usize = 1024;
+
+    // The update of length bytes at offset of a page that stands at place index of its group.
+    pub fn update(
+        sequence: u64,
+        keep_from: u64,
+        index: usize,
+        page: usize,
+        offset: usize,
+        length: usize,
+        ticket: u64,
+    ) -> Block
+        ensures { λ r. ⌜ r ≡ updateBlock sequence «keep_from» index page offset length ticket ⌝ }
+    {
+        Block {
+            sequence,
+            keep_from,
+            kind: Kind::Update {
+                index,
+                page,
+                offset,
+                length,
+            },
+            ticket,
+        }
+    }
+
+    // The commit of a group of so many updates.
+    pub fn commit(sequence: u64, keep_from: u64, updates: usize, ticket: u64) -> Block
+        ensures { λ r. ⌜ r ≡ commitBlock sequence «keep_from» updates ticket ⌝ }
+    {
+        Block {
+            sequence,
+            keep_from,
+            kind: Kind::Commit { updates },
+            ticket,
+        }
+    }
+
+    // The clean block of a page.
+    pub fn clean(sequence: u64, keep_from: u64, page: usize, ticket: u64) -> Block
+        ensures { λ r. ⌜ r ≡ cleanBlock sequence «keep_from» page ticket ⌝ }
+    {
+        Block {
+            sequence,
+            keep_from,
+            kind: Kind::Clean { page },
+            ticket,
+        }
+    }
+}
+
+// The sizes are those of the definitions.
+pub fn sizes() -> bool
+    ensures { λ r. do ⌜ ((← ⟦Block::SIZE⟧ .entry) ≡ blockSize) × ((← ⟦Block::NEW_BYTES⟧ .entry) ≡ newBytesMost) × ((← ⟦Block::PAGE⟧ .entry) ≡ pageSize) ⌝ }
+{
+    true
+}
+
+// Stores a block and its new bytes in its slot, which is all that is lent.
+pub fn write(slot: &mut [u8], block: Block, new: &[u8])
+    requires { ⌜ (length (now slot) ≡ blockSize) × (length (now new) ≤ newBytesMost) ⌝ }
+    ensures { λ _. ⌜ now (slot .exit) ≡ layout block (now (new .entry)) ⌝ }
+{
+    let b = writing::built(block, new);
+    area::copy(slot, &b);
+}
+
+// What slot number place of a log of so many slots holds, for a home of so many pages.
+pub fn judge(slot: &[u8], slots: u64, pages: usize, place: u64) -> Judged
+    requires { ⌜ (length (now slot) ≡ blockSize) × (0 < slots) ⌝ }
+    ensures { λ r. ⌜ r ≡ judged slots pages place (now (slot .entry)) ⌝ }
+{
+    if judging::zeros(slot) {
+        return Judged::Unused;
+    }
+    let block = judging::block_at(slot);
+    if judging::valid(slot, block, slots, pages, place) {
+        return Judged::Valid(block);
+    }
+    Judged::Damaged
+}
+
+// The new bytes of a slot whose block carries so many: a part of the slot.
+pub fn new_bytes(slot: &[u8], count: usize) -> &[u8]
+    requires { ⌜ (length (now slot) ≡ blockSize) × (count ≤ newBytesMost) ⌝ }
+    ensures { λ r. ⌜ now r ≡ newBytesAt (now (slot .entry)) count ⌝ }
+{
+    let end = writing::HEADER + count;
+    &slot[writing::HEADER..end]
+}
+
+// Whether the layout allows an update of length bytes at offset of a page, with so many pages.
+pub fn legal_place(pages: usize, page: usize, offset: usize, length: usize) -> bool
+    ensures { λ r. ⌜ r ≡ legalPlace pages page offset length ⌝ }
+{
+    let room = if offset <= Block::PAGE {
+        Block::PAGE - offset
+    } else {
+        0
+    };
+    (page < pages) & (1 <= length) & (length <= Block::NEW_BYTES) & (length <= room)
+}
