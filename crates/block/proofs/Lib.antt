@@ -1,1 +1,11 @@
 pub mod Lengths
+pub mod Numbers
+pub mod Tests
+pub mod Sums
+pub mod Indexed
+pub mod Stores
+pub mod Rules
+pub mod Places
+pub mod Laid
+pub mod Facts
+pub mod ReadBack

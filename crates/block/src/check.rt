@@ -22,7 +22,8 @@ pub fn check_of(bytes: &[u8]) -> Sums
     let mut b: u64 = 0;
     let mut i = 0;
     while i < bytes.len() {
-        a += bytes[i] as u64;
+        let byte = bytes[i] as u64;
+        a += byte;
         b += a;
         i += 1;
     }

@@ -163,7 +163,8 @@ pub fn valid(slot: &[u8], block: Block, slots: u64, pages: usize, place: u64) ->
     if !legal_block(slots, pages, block) {
         return false;
     }
-    if block.sequence % slots != place {
+    let own = block.sequence % slots;
+    if own != place {
         return false;
     }
     let kind = block.kind;

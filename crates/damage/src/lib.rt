@@ -1,0 +1,1 @@
+// What the block format finds: the theorems stand in proofs/, over the definitions of the crate block. No code.

@@ -1,0 +1,157 @@
+-- The book's pages are what the committed transactions, in ticket order, make of the pages at formatting.
+-- Assumes nothing.
+use mathlib.Core.Path.{_≡_, refl, sym, ap, _∙_, subst}
+use mathlib.Core.Bool.{Bool, true, false, cond}
+use Prim.Native.Nat.{ℕ, _+_}
+use mathlib.Core.List.{List, [], _∷_, _++_, append-nil, append-assoc}
+use native.Mathlib.Omega.{arith}
+use lib.ListN.{length, length-append}
+use lib.Dec.{eqb, ltb}
+use Rattle.promises.specs.Areas.{pageAt}
+use Rattle.promises.specs.Updates.{Update, redo, ofPage}
+use Rattle.promises.specs.Book.{Book, blank, counted, committed, steppedOver}
+use Rattle.promises.specs.Events.{Sizes, World, Call, opening, begin, describe, ending, logStep, cleanStep, reading, settling, accepts}
+use Rattle.promises.proofs.History.Sees.{redo-app}
+use Rattle.promises.specs.Claim.{
+  entered,
+  cutAt,
+  both,
+  Run,
+  formatted,
+  called,
+  unfit,
+  cut,
+  cutUnfit,
+  leaving,
+  commitsOf,
+  committedBy,
+  foundBy,
+  together,
+  Accounts,
+  BookClaim,
+}
+
+-- ---- updates one after the other
+ofPage-append : (p : ℕ) (us vs : List Update) → ofPage p (us ++ vs) ≡ ofPage p us ++ ofPage p vs
+unfolding ofPage
+ofPage-append p [] vs = refl
+ofPage-append p (u ∷ us) vs = go (eqb p (u .page)) (ofPage-append p us vs)
+  where
+    go : (b : Bool) → ofPage p (us ++ vs) ≡ ofPage p us ++ ofPage p vs
+        → cond b (u ∷ ofPage p (us ++ vs)) (ofPage p (us ++ vs)) ≡ cond b (u ∷ ofPage p us) (ofPage p us) ++ ofPage p vs
+    go true e = ap (λ (l : List Update). u ∷ l) e
+    go false e = e
+
+together-snoc : (gs : List (List Update)) (g : List Update) → together (gs ++ (g ∷ [])) ≡ together gs ++ g
+together-snoc [] g = append-nil g
+together-snoc (x ∷ gs) g = ap (λ (l : List Update). x ++ l) (together-snoc gs g) ∙ sym (append-assoc x (together gs) g)
+
+-- ---- one entry of the book
+
+-- what the committed transactions so far make of a book
+record Counts (home : List ℕ) (gs : List (List Update)) (m : ℕ) (pages : ℕ → List ℕ) : Type 0 where
+  count : length gs ≡ m
+  made : (p : ℕ) → pages p ≡ redo (ofPage p (together gs)) (pageAt home p)
+
+none-more : (home : List ℕ) (gs : List (List Update)) (b : Book) → Counts home gs (b .m) (b .pages) → Counts home (gs ++ []) (b .m) (b .pages)
+none-more home gs b k = subst (λ (l : List (List Update)). Counts home l (b .m) (b .pages)) (sym (append-nil gs)) k
+
+one-more : (home : List ℕ) (gs : List (List Update)) (g : List Update) (b : Book) → Counts home gs (b .m) (b .pages)
+    → Counts home (gs ++ (g ∷ [])) (b .m + 1) (λ p. redo (ofPage p g) (b .pages p))
+one-more home gs g b k = record {
+  count = length-append gs (g ∷ []) ∙ omega (arith, k .count);
+  made = λ p.
+      ap (redo (ofPage p g)) (k .made p)
+      ∙ sym (redo-app (ofPage p (together gs)) (ofPage p g) (pageAt home p))
+      ∙ ap (λ (us : List Update). redo us (pageAt home p)) (sym (ofPage-append p (together gs) g))
+      ∙ ap (λ (us : List Update). redo (ofPage p us) (pageAt home p)) (sym (together-snoc gs g));
+}
+
+stepping : (home : List ℕ) (gs : List (List Update)) (b : Book) → Counts home gs (b .m) (b .pages) → (queue : List (List Update))
+    → Counts home (gs ++ leaving (b .count) queue) (steppedOver b queue .m) (steppedOver b queue .pages)
+stepping home gs b k [] = none-more home gs b k
+stepping home gs b k (g ∷ rest) = go (ltb (length g) (b .count + 1))
+  where
+    go : (c : Bool) → Counts home (gs ++ cond c (g ∷ []) []) (cond {A = Book} c (committed b g rest) (counted b) .m)
+        (cond {A = Book} c (committed b g rest) (counted b) .pages)
+    go true = one-more home gs g b k
+    go false = none-more home gs b k
+
+-- a call, accepted or refused
+on-call : (home : List ℕ) (gs : List (List Update)) (b : Book) → Counts home gs (b .m) (b .pages) → (c : Call) (ok : Bool)
+    → Counts home (gs ++ commitsOf c ok b) (entered c ok b .m) (entered c ok b .pages)
+on-call home gs b k (opening frames staging) ok = none-more home gs b k
+on-call home gs b k (begin u) true = none-more home gs b k
+on-call home gs b k (begin u) false = none-more home gs b k
+on-call home gs b k (describe u) true = none-more home gs b k
+on-call home gs b k (describe u) false = none-more home gs b k
+on-call home gs b k ending true = none-more home gs b k
+on-call home gs b k ending false = none-more home gs b k
+on-call home gs b k logStep true = stepping home gs b k (b .queue)
+on-call home gs b k logStep false = none-more home gs b k
+on-call home gs b k cleanStep ok = none-more home gs b k
+on-call home gs b k (reading p) ok = none-more home gs b k
+on-call home gs b k (settling t) ok = none-more home gs b k
+
+-- a cut takes list, queue and count
+on-cut : (home : List ℕ) (gs : List (List Update)) (b : Book) → Counts home gs (b .m) (b .pages) → (c : Call) (ok : Bool)
+    → Counts home (gs ++ commitsOf c ok b) (cutAt c ok b .m) (cutAt c ok b .pages)
+on-cut home gs b k (opening frames staging) ok = none-more home gs b k
+on-cut home gs b k (begin u) ok = none-more home gs b k
+on-cut home gs b k (describe u) ok = none-more home gs b k
+on-cut home gs b k ending ok = none-more home gs b k
+on-cut home gs b k logStep true = stepping home gs b k (b .queue)
+on-cut home gs b k logStep false = none-more home gs b k
+on-cut home gs b k cleanStep ok = none-more home gs b k
+on-cut home gs b k (reading p) ok = none-more home gs b k
+on-cut home gs b k (settling t) ok = none-more home gs b k
+
+-- a refused call, and a cut at one, commit nothing
+call-refused : (home : List ℕ) (gs : List (List Update)) (b : Book) → Counts home gs (b .m) (b .pages) → (c : Call)
+    → Counts home gs (entered c false b .m) (entered c false b .pages)
+call-refused home gs b k (opening frames staging) = k
+call-refused home gs b k (begin u) = k
+call-refused home gs b k (describe u) = k
+call-refused home gs b k ending = k
+call-refused home gs b k logStep = k
+call-refused home gs b k cleanStep = k
+call-refused home gs b k (reading p) = k
+call-refused home gs b k (settling t) = k
+
+cut-refused : (home : List ℕ) (gs : List (List Update)) (b : Book) → Counts home gs (b .m) (b .pages) → (c : Call)
+    → Counts home gs (cutAt c false b .m) (cutAt c false b .pages)
+cut-refused home gs b k (opening frames staging) = k
+cut-refused home gs b k (begin u) = k
+cut-refused home gs b k (describe u) = k
+cut-refused home gs b k ending = k
+cut-refused home gs b k logStep = k
+cut-refused home gs b k cleanStep = k
+cut-refused home gs b k (reading p) = k
+cut-refused home gs b k (settling t) = k
+
+-- ---- every run
+as-book : (home : List ℕ) (gs : List (List Update)) (b b′ : Book) → b′ ≡ b → Counts home gs (b .m) (b .pages) → Counts home gs (b′ .m) (b′ .pages)
+as-book home gs b b′ e k = subst (λ (x : Book). Counts home gs (x .m) (x .pages)) (sym e) k
+
+blank-counts : (home : List ℕ) → Counts home [] 0 (pageAt home)
+unfolding redo ofPage
+blank-counts home = record { count = refl; made = λ p. refl }
+
+counts : (z : Sizes) (w : World) (b : Book) (run : Run z w b) → Counts (foundBy run) (committedBy run) (b .m) (b .pages)
+unfolding foundBy committedBy
+counts z w b (formatted log log′ home frames staging r l h f e q) =
+    as-book home [] (blank home) b q (blank-counts home)
+counts z w b (called {world = w₀} {book = b₀} c a run l st e) =
+    as-book (foundBy run) (committedBy run ++ commitsOf c (accepts a) b₀) (entered c (accepts a) b₀) b e
+    (on-call (foundBy run) (committedBy run) b₀ (counts z w₀ b₀ run) c (accepts a))
+counts z w b (unfit {world = w₀} {book = b₀} c a lent lent′ run same st r e q) =
+    as-book (foundBy run) (committedBy run) (entered c false b₀) b q (call-refused (foundBy run) (committedBy run) b₀ (counts z w₀ b₀ run) c)
+counts z w b (cut {world = w₀} {book = b₀} c a w′ stored frames staging run l st e q) =
+    as-book (foundBy run) (committedBy run ++ commitsOf c (both stored (accepts a)) b₀) (cutAt c (both stored (accepts a)) b₀) b q
+    (on-cut (foundBy run) (committedBy run) b₀ (counts z w₀ b₀ run) c (both stored (accepts a)))
+counts z w b (cutUnfit {world = w₀} {book = b₀} c a lent lent′ frames staging run same st r e q) =
+    as-book (foundBy run) (committedBy run) (cutAt c false b₀) b q (cut-refused (foundBy run) (committedBy run) b₀ (counts z w₀ b₀ run) c)
+
+-- the book accounts for every run
+pub book-accounts : BookClaim
+book-accounts z w b run = let k = counts z w b run in record { counts = k .count; pagesAre = k .made }

@@ -1,0 +1,253 @@
+-- A described update in a free staging area: the promise of Describe is met.
+-- Assumes nothing.
+use mathlib.Core.Path.{_≡_, refl, sym, ap, _∙_, subst}
+use mathlib.Core.Bool.{Bool, true, false, cond, not, _&&_, _||_}
+use Prim.Native.Nat.{ℕ, zero, suc, _+_, _*_, _-_, _^_, _≤_, _<_}
+use mathlib.Core.List.{List, [], _∷_, _++_, map}
+use native.Mathlib.Omega.{arith}
+use native.Mathlib.Nat.{zero-add, suc-add}
+use lib.ListN.{length, take, drop, set, length-set, length-take, length-map}
+use lib.Seq.{take-set-le, take-suc-set, take-add, drop-at, take-at, take-take, take-all, length-take-le}
+use lib.Dec.{eqb, leb, ltb}
+use borrow.Author.Tests.{leb-true, ltb-true, eqb-true, eqb-false, le-leb, lt-ltb, ne-eqb}
+use Rattle.promises.specs.declared.State.{State}
+use Rattle.promises.specs.declared.Staged.{Staged}
+use Rattle.promises.specs.declared.Outcome.{Outcome}
+use Rattle.promises.specs.declared.Answer.the-variants.{Done}
+use Rattle.promises.specs.Areas.{withStaged}
+use Rattle.area.specs.Part.{part, splice}
+use Rattle.promises.specs.Updates.{Update}
+use Rattle.promises.specs.Contents.{Contents, contentsOf, groupsOf, grouped, queueOf, listOf, waiting, total}
+use Rattle.promises.specs.Sound.{member, distinct, allBelow, allLegal, stagedOf, areasOf, sound}
+use Rattle.block.specs.Legal.{legalPlace}
+use Rattle.promises.specs.Sums.{openOnes}
+use Rattle.promises.specs.Describe.{describeRefusal, Describes}
+use Rattle.promises.specs.Book.{described}
+use Rattle.promises.proofs.Soundness.{and-both, and2, Sound, sound-of, of-sound}
+use Rattle.promises.proofs.Changes.{pick-zero, pick-other}
+use Rattle.area.proofs.Parts.{part-same, part-before, part-after, length-splice, either}
+
+-- one update more, in the place after those that wait
+abbrev pub added : State → Staged → State
+added s u = record {
+  pages = s .pages;
+  slots = s .slots;
+  frames = s .frames;
+  next = s .next;
+  ticket = s .ticket;
+  dirty = s .dirty;
+  staged = set (s .staged) (total (groupsOf s) + s .described) u;
+  groups = s .groups;
+  queued = s .queued;
+  stored = s .stored;
+  reserved = s .reserved;
+  described = s .described + 1;
+  cleaning = s .cleaning;
+}
+
+-- ---- lists
+map-take : {A B : Type 0} (f : A → B) (n : ℕ) (l : List A) → take n (map f l) ≡ map f (take n l)
+map-take f zero l = refl
+map-take f (suc n) [] = refl
+map-take f (suc n) (x ∷ l) = ap (λ r. f x ∷ r) (map-take f n l)
+
+map-snoc : {A B : Type 0} (f : A → B) (l : List A) (x : A) → map f (l ++ (x ∷ [])) ≡ map f l ++ (f x ∷ [])
+map-snoc f [] x = refl
+map-snoc f (y ∷ l) x = ap (λ r. f y ∷ r) (map-snoc f l x)
+
+drop-snoc : {A : Type 0} (t : ℕ) (l : List A) (x : A) → t ≤ length l → drop t (l ++ (x ∷ [])) ≡ drop t l ++ (x ∷ [])
+drop-snoc zero l x h = refl
+drop-snoc (suc t) [] x h = absurd (omega arith)
+drop-snoc (suc t) (y ∷ l) x h = drop-snoc t l x (omega arith)
+
+-- n elements from t on, of the first t + n
+take-none : {A : Type 0} (n : ℕ) → take {A = A} n [] ≡ []
+take-none zero = refl
+take-none (suc n) = refl
+
+middle : {A : Type 0} (t n : ℕ) (l : List A) → take n (drop t l) ≡ drop t (take (t + n) l)
+middle zero n l = ap (λ (i : ℕ). take i l) (sym (zero-add n))
+middle (suc t) n [] = take-none n ∙ sym (ap (drop (suc t)) (take-none (suc t + n)))
+middle (suc t) n (x ∷ l) = middle t n l ∙ ap (λ (i : ℕ). drop (suc t) (take i (x ∷ l))) (sym (suc-add t n))
+
+-- groups look only at as many updates as they have
+grouped-take : (ns : List ℕ) (us vs : List Update) → take (total ns) us ≡ take (total ns) vs → grouped ns us ≡ grouped ns vs
+unfolding grouped
+grouped-take [] us vs e = refl
+grouped-take (n ∷ ns) us vs e =
+    let t : take n us ≡ take n vs = sym (take-take n (n + total ns) us (omega arith)) ∙ ap (take n) e ∙ take-take n (n + total ns) vs (omega arith) in
+    let d : take (total ns) (drop n us) ≡ take (total ns) (drop n vs) = middle n (total ns) us ∙ ap (drop n) e ∙ sym (middle n (total ns) vs) in
+    rw (t, grouped-take ns (drop n us) (drop n vs) d) refl
+
+-- ---- soundness
+elem-snoc : (a : ℕ) (xs : List ℕ) (b : ℕ) → member a xs ≡ false → (a ≡ b → ⊥) → member a (xs ++ (b ∷ [])) ≡ false
+elem-snoc a [] b h n = simp (ne-eqb a b n)
+elem-snoc a (x ∷ xs) b h n = go (eqb a x) h (λ k. elem-snoc a xs b k n)
+  where
+    go : (c : Bool) → (c || member a xs) ≡ false → (member a xs ≡ false → member a (xs ++ (b ∷ [])) ≡ false) → (c || member a (xs ++ (b ∷ []))) ≡ false
+    go true h f = h
+    go false h f = f h
+
+elem-head : (a x : ℕ) (xs : List ℕ) → member a (x ∷ xs) ≡ false → (x ≡ a → ⊥) × (member a xs ≡ false)
+elem-head a x xs h = go (eqb a x) refl h
+  where
+    go : (c : Bool) → eqb a x ≡ c → (c || member a xs) ≡ false → (x ≡ a → ⊥) × (member a xs ≡ false)
+    go true e h = let z : _≡_ {A = ℕ} 0 1 = cc in absurd (omega arith)
+    go false e h = ((λ q. eqb-false a x e (sym q)), h)
+
+distinct-snoc : (xs : List ℕ) (b : ℕ) → distinct xs ≡ true → member b xs ≡ false → distinct (xs ++ (b ∷ [])) ≡ true
+distinct-snoc [] b h e = refl
+distinct-snoc (x ∷ xs) b h e =
+    let a = and-both (not (member x xs)) (distinct xs) h in
+    let c = elem-head b x xs e in
+    let k : member x (xs ++ (b ∷ [])) ≡ false = elem-snoc x xs b (no (member x xs) (a .0)) (c .0) in
+    let m : not (member x (xs ++ (b ∷ []))) ≡ true = rw k in
+    and2 m (distinct-snoc xs b (a .1) (c .1))
+  where
+    no : (t : Bool) → not t ≡ true → t ≡ false
+    no true e = let z : _≡_ {A = ℕ} 0 1 = cc in absurd (omega arith)
+    no false e = refl
+
+below-snoc : (n : ℕ) (xs : List ℕ) (b : ℕ) → allBelow n xs ≡ true → b < n → allBelow n (xs ++ (b ∷ [])) ≡ true
+below-snoc n [] b h l = and2 (lt-ltb b n l) refl
+below-snoc n (x ∷ xs) b h l = let a = and-both (ltb x n) (allBelow n xs) h in and2 (a .0) (below-snoc n xs b (a .1) l)
+
+legal-snoc : (P : ℕ) (us : List Staged) (u : Staged) → allLegal P us ≡ true → legalPlace P (u .page) (u .offset) (u .length) ≡ true → allLegal P (us ++ (u ∷ [])) ≡ true
+legal-snoc P [] u h l = and2 l refl
+legal-snoc P (v ∷ us) u h l = let a = and-both (legalPlace P (v .page) (v .offset) (v .length)) (allLegal P us) h in and2 (a .0) (legal-snoc P us u (a .1) l)
+
+areas-snoc : (us : List Staged) (u : Staged) → areasOf (us ++ (u ∷ [])) ≡ areasOf us ++ (u .area ∷ [])
+areas-snoc [] u = refl
+areas-snoc (v ∷ us) u = ap (λ (r : List ℕ). v .area ∷ r) (areas-snoc us u)
+
+module _ (s : State) (f : Sound s) (u : Staged) (room : total (groupsOf s) + s .described < length (s .staged)) (free : member (u .area) (areasOf (stagedOf s)) ≡ false) (below : u .area < s .frames)
+    (legal : legalPlace (s .pages) (u .page) (u .offset) (u .length) ≡ true) (more : s .described < s .reserved) where
+  abbrev k : ℕ
+  k = total (groupsOf s) + s .described
+
+  staged-added : stagedOf (added s u) ≡ stagedOf s ++ (u ∷ [])
+  staged-added =
+      let e : total (groupsOf s) + (s .described + 1) ≡ suc k = omega arith in
+      ap (λ (n : ℕ). take n (set (s .staged) k u)) e ∙ take-suc-set (s .staged) k u room
+
+  areas-added : areasOf (stagedOf (added s u)) ≡ areasOf (stagedOf s) ++ (u .area ∷ [])
+  areas-added = ap areasOf staged-added ∙ areas-snoc (stagedOf s) u
+
+  pub sound-added : Sound (added s u)
+  sound-added =
+      record {
+        pages = f .pages;
+        slots = f .slots;
+        frames = f .frames;
+        distinctPages = f .distinctPages;
+        pagesBelow = f .pagesBelow;
+        framesBelow = f .framesBelow;
+        firstsBelow = f .firstsBelow;
+        cleaning = f .cleaning;
+        distinctAreas = rw areas-added (distinct-snoc (areasOf (stagedOf s)) (u .area) (f .distinctAreas) free);
+        areasBelow = rw areas-added (below-snoc (s .frames) (areasOf (stagedOf s)) (u .area) (f .areasBelow) below);
+        places = rw staged-added (legal-snoc (s .pages) (stagedOf s) u (f .places) legal);
+        ticket = f .ticket;
+        queued = f .queued;
+        staged = omega (arith, length-set (s .staged) k u);
+        groups = f .groups;
+        stored = f .stored;
+        reserved = f .reserved;
+        described = omega arith;
+        slotSum = f .slotSum;
+        frameSum = f .frameSum;
+        sequenceSum = f .sequenceSum;
+      }
+
+  module _ (staging bytes : List ℕ) (long : length bytes ≡ u .length) (lent : length staging ≡ s .frames * 472) where
+    abbrev after : List ℕ
+    after = splice staging (u .area * 472) (u .length) bytes
+
+    small : u .length ≤ 472
+    small =
+        let a = and-both (ltb (u .page) (s .pages) && leb 1 (u .length) && leb (u .length) 472) (leb (u .offset + u .length) 1024) legal in
+        leb-true _ _ (and-both (ltb (u .page) (s .pages) && leb 1 (u .length)) (leb (u .length) 472) (a .0) .1)
+
+    fits : u .area * 472 + u .length ≤ length staging
+    fits = omega (arith, small)
+
+    -- the bytes of the others stay
+    others : (xs : List Staged) → member (u .area) (areasOf xs) ≡ false → allLegal (s .pages) xs ≡ true → map (waiting after) xs ≡ map (waiting staging) xs
+    others [] e l = refl
+    others (x ∷ xs) e l =
+        let c = elem-head (u .area) (x .area) (areasOf xs) e in
+        let a = and-both (legalPlace (s .pages) (x .page) (x .offset) (x .length)) (allLegal (s .pages) xs) l in
+        let g = and-both (ltb (x .page) (s .pages) && leb 1 (x .length) && leb (x .length) 472) (leb (x .offset + x .length) 1024) (a .0) in
+        let h : x .length ≤ 472 = leb-true _ _ (and-both (ltb (x .page) (s .pages) && leb 1 (x .length)) (leb (x .length) 472) (g .0) .1) in
+        let i : u .length ≤ 472 = small in
+        let n : x .area ≡ u .area → ⊥ = c .0 in
+        let p : part after (x .area * 472) (x .length) ≡ part staging (x .area * 472) (x .length) = either (x .area) (u .area)
+        (λ q. part-before staging (u .area * 472) (u .length) bytes fits long (x .area * 472) (x .length) (omega arith))
+        (λ q. part-after staging (u .area * 472) (u .length) bytes fits long (x .area * 472) (x .length) (omega arith)) in
+        rw (p, others xs (c .1) (a .1)) refl
+
+    waiting-same : take k (map (waiting after) (set (s .staged) k u)) ≡ take k (map (waiting staging) (s .staged))
+    waiting-same = map-take (waiting after) k (set (s .staged) k u) ∙ ap (map (waiting after)) (take-set-le k (s .staged) k u (omega arith)) ∙ others (stagedOf s) free (f .places) ∙ sym (map-take (waiting staging) k (s .staged))
+
+    queue-same : queueOf (added s u) after ≡ queueOf s staging
+    queue-same = grouped-take (groupsOf s) _ _
+        (sym (take-take (total (groupsOf s)) k (map (waiting after) (set (s .staged) k u)) (omega arith)) ∙ ap (take (total (groupsOf s))) waiting-same ∙ take-take (total (groupsOf s)) k (map (waiting staging) (s .staged)) (omega arith))
+
+    list-more : listOf (added s u) after ≡ listOf s staging ++ (record { page = u .page; offset = u .offset; bytes = bytes } ∷ [])
+    list-more =
+        let t : ℕ = total (groupsOf s) in
+        let l1 : List Update = map (waiting after) (set (s .staged) k u) in
+        let e : t + (s .described + 1) ≡ suc k = omega arith in
+        let w : waiting after u ≡ record { page = u .page; offset = u .offset; bytes = bytes } = ap (λ (x : List ℕ). record { page = u .page; offset = u .offset; bytes = x }) (part-same staging (u .area * 472) (u .length) bytes fits long) in
+        let a : take (suc k) l1 ≡ map (waiting after) (stagedOf s) ++ (waiting after u ∷ []) =
+        map-take (waiting after) (suc k) (set (s .staged) k u) ∙ ap (map (waiting after)) (take-suc-set (s .staged) k u room) ∙ map-snoc (waiting after) (stagedOf s) u in
+        let b : map (waiting after) (stagedOf s) ≡ take k (map (waiting staging) (s .staged)) = others (stagedOf s) free (f .places) ∙ sym (map-take (waiting staging) k (s .staged)) in
+        let n : t ≤ length (take k (map (waiting staging) (s .staged))) = omega (arith, length-take k (map (waiting staging) (s .staged)), length-map (s .staged) (waiting staging)) in
+        middle t (s .described + 1) l1
+        ∙ ap (λ (i : ℕ). drop t (take i l1)) e
+        ∙ ap (drop t) a
+        ∙ ap (λ (x : List Update). drop t (x ++ (waiting after u ∷ []))) b
+        ∙ drop-snoc t (take k (map (waiting staging) (s .staged))) (waiting after u) n
+        ∙ ap (λ (x : List Update). x ++ (waiting after u ∷ [])) (sym (middle t (s .described) (map (waiting staging) (s .staged))))
+        ∙ ap (λ (x : Update). listOf s staging ++ (x ∷ [])) w
+
+-- Describe is met by any free area
+pub describe-met : (s : State) (page offset area : ℕ) (bytes staging : List ℕ) → length (s .staged) ≡ 32
+    → describeRefusal s (length staging) page offset (length bytes) ≡ 0 → area < s .frames → member area (areasOf (stagedOf s)) ≡ false
+    → Describes s (record { page = page; offset = offset; bytes = bytes }) staging
+    (record { state = added s (record { page = page; offset = offset; length = length bytes; area = area }); answer = Done })
+    (withStaged staging area (length bytes) bytes)
+unfolding describeRefusal
+describe-met s page offset area bytes staging l32 e below free =
+    let u : Staged = record { page = page; offset = offset; length = length bytes; area = area } in
+    let c2 = pick-zero (sound s) _ 2 (omega arith) e in
+    let c1 = pick-zero (eqb (length staging) (s .frames * 472)) _ 1 (omega arith) (c2 .1) in
+    let c4 = pick-other (eqb (s .reserved) 0) _ 4 (omega arith) (c1 .1) in
+    let c3 = pick-zero (legalPlace (s .pages) page offset (length bytes)) _ 3 (omega arith) (c4 .1) in
+    let c5 = pick-zero (ltb (s .described) (s .reserved)) 0 5 (omega arith) (c3 .1) in
+    let f : Sound s = sound-of s (c2 .0) in
+    let nz : s .reserved ≡ 0 → ⊥ = eqb-false _ _ (c4 .0) in
+    let o : total (openOnes s) ≡ s .reserved = ap total (one (s .reserved) nz) ∙ omega arith in
+    let more : s .described < s .reserved = ltb-true _ _ (c5 .0) in
+    let room : total (groupsOf s) + s .described < length (s .staged) = omega (arith, f .frameSum, f .frames, o) in
+    let lent : length staging ≡ s .frames * 472 = eqb-true _ _ (c1 .0) in
+    let so : sound (added s u) ≡ true = of-sound (added s u) (sound-added s f u room free below (c3 .0) more) in
+    record {
+      refusal = sym e;
+      refused = λ x. absurd (x e);
+      accepted = λ x. record {
+        area = area;
+        areaBelow = below;
+        areaFree = free;
+        stagingIs = refl;
+        answerIs = refl;
+        leaves = record {
+          staysSound = so;
+          contentsAre = rw (queue-same s f u room free below (c3 .0) more staging bytes refl lent, list-more s f u room free below (c3 .0) more staging bytes refl lent) refl;
+          dirtyAre = λ frames p. refl;
+        };
+      };
+    }
+  where
+    one : (u : ℕ) → (u ≡ 0 → ⊥) → cond (eqb u 0) [] (u ∷ []) ≡ u ∷ []
+    one u n = simp (ne-eqb u 0 n)

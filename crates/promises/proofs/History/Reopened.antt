@@ -1,0 +1,163 @@
+-- Open is accepted on what the store wrote, and finds the book's pages.
+use mathlib.Core.Path.{_≡_, refl, sym, ap, _∙_, subst, subst₂}
+use Prim.Native.Nat.{ℕ, zero, suc, _+_, _-_, _*_, _≤_, _<_, min, _%_}
+use native.Mathlib.Omega.{arith}
+use native.Mathlib.Nat.{zero-add, add-zero}
+use mathlib.Core.Bool.{Bool, true, false, cond, _&&_, _||_}
+use mathlib.Core.List.{List, [], _∷_, _++_}
+use lib.ListN.{length, take, drop, getD, length-append, length-drop}
+use lib.Seq.{drop-nil}
+use lib.Dec.{eqb, ltb, leb}
+use borrow.Author.Tests.{eq-eqb, ne-eqb, le-leb}
+use Rattle.promises.proofs.History.Legal.{Legal}
+use Rattle.promises.specs.Updates.{Update, redo}
+use Rattle.promises.proofs.History.Views.{Page, tidy, dirty, updatesOf, View, noView, committedOver, viewBlock, viewFrom, Begins}
+use Rattle.promises.specs.Blocks.{Kind, update, commit, clean, LogBlock}
+use Rattle.promises.specs.Updates.{ofPage}
+use Rattle.promises.proofs.History.Machine.{lastKeep, Live, World, down, walk, recover}
+use Rattle.promises.specs.DirtyPages.{DirtyPage, Found, absent, at, lookUp, keepFromOf}
+use Rattle.promises.specs.Walk.{Walk, walkBlock, believed}
+use Rattle.promises.proofs.History.Ledger.{Book, gone}
+use Rattle.promises.specs.Blocks.{Slot, unused, valid}
+use Rattle.promises.specs.Newest.{sequenceIn, newest, Gathered, blocks, gathered}
+use Rattle.promises.proofs.History.Stands.{allStand}
+use Rattle.promises.proofs.History.Sizes.{Sizes, opened}
+use Rattle.promises.proofs.History.Since.{AtLeast, Below, below-track}
+use Rattle.promises.proofs.History.Sees.{Sees, clear, held, by-eq}
+use Rattle.promises.proofs.History.WalkStart.{BeginsAt, commits, isCommit, Distinct, min-or, look-head}
+use Rattle.promises.proofs.History.Invariant.{view, Disk, Keep, empty, from, Alive}
+use Rattle.promises.proofs.History.Ring.{Holds, noBlock, reads-none, reads-hist, newest-le, newest-ge}
+use Rattle.promises.proofs.History.Tally.{tally, Pages, tally-zero}
+use Rattle.promises.proofs.History.Accepted.{formed-cap, Ups, Views, after, Formed, formed-app, ok-from, walkAt, step-ups, step-pages}
+use Rattle.promises.proofs.History.Recovered.{inv-open, rest}
+use Rattle.promises.proofs.History.Whole.{Kept, Runs, dirtyOf, count-dirty}
+
+pub last-keepFrom : (history : List LogBlock) → 0 < length history → getD history (length history - 1) noBlock .keepFrom ≡ lastKeep history
+unfolding lastKeep
+last-keepFrom [] z = absurd (omega arith)
+last-keepFrom (x ∷ []) z = refl
+last-keepFrom (x ∷ y ∷ history) z =
+    let q : length (x ∷ y ∷ history) - 1 ≡ suc (length (y ∷ history) - 1) = omega arith in
+    ap (λ (n : ℕ). getD (x ∷ y ∷ history) n noBlock .keepFrom) q ∙ last-keepFrom (y ∷ history) (omega arith)
+
+pub begins-le : {history : List LogBlock} {m k : ℕ} → BeginsAt history m k → (0 < k) × (k ≤ length history)
+begins-le {history} g = let e : length history ≡ length (g .pre) + suc (length (g .post)) = ap length (g .split) ∙ length-append (g .pre) (g .block ∷ g .post) in
+    (omega (arith, g .place), omega (arith, g .place, e))
+
+walk-pages : (F P j m : ℕ) (home : ℕ → List ℕ) (bs : List LogBlock) (v : Walk) (ts : Views) → Formed F P j m ts bs → Ups P (v .group) → Pages P (v .dirtyPages) → Pages P (walk home j bs v .dirtyPages)
+unfolding walk
+walk-pages F P j m home [] v ts f a b = b
+walk-pages F P j m home (x ∷ bs) v ts f a b = walk-pages F P (suc j) (m + isCommit (x .kind)) home bs (walkBlock home j (x .kind) v) (after j (x .kind) ts) (f .1)
+    (step-ups F P j m (x .ticket) home (x .kind) v ts (f .0) a) (step-pages P j home (x .kind) v a b)
+
+-- all first groups are at least k
+pub oldest-ge : (k d : ℕ) (home : ℕ → List ℕ) (es : List DirtyPage) → Distinct es → ((p : ℕ) (e : DirtyPage) → lookUp p es ≡ at e → k ≤ e .first) → k ≤ d → k ≤ keepFromOf d es
+unfolding keepFromOf lookUp
+oldest-ge k d home [] u g h = h
+oldest-ge k d home (e ∷ es) u g h = min-or (λ n. k ≤ n) (e .first) (keepFromOf d es) (g (e .page) e (look-head e es))
+    (oldest-ge k d home es (u .1) (λ p x q. by-eq p (e .page)
+    (λ y. let c : _≡_ {A = Found} absent (at x) = sym (u .0) ∙ ap (λ (n : ℕ). lookUp n es) (sym y) ∙ q in let n : _≡_ {A = ℕ} 0 1 = cc in absurd (omega arith))
+    (λ n. g p x (simp (ne-eqb _ _ n) q))) h)
+
+first-ge : {k : ℕ} {h : List ℕ} {x : Found} {c : Page} → AtLeast k c → Sees h x c → (e : DirtyPage) → x ≡ at e → k ≤ e .first
+first-ge a clear e q = let n : _≡_ {A = ℕ} 0 1 = cc in absurd (omega arith)
+first-ge {k} (AtLeast.some g) (held {e = y} f) e q = let s : y ≡ e = cc in subst (λ (t : DirtyPage). k ≤ t .first) s g
+
+small : {history : List LogBlock} → history ≡ [] → lastKeep history ≤ length history + 1
+unfolding lastKeep
+small e = rw e (omega arith)
+
+one-keepFrom : {history : List LogBlock} → history ≡ [] → lastKeep history ≡ 1
+unfolding lastKeep
+one-keepFrom e = rw e refl
+
+ok-none : (F : ℕ) (home : ℕ → List ℕ) {history : List LogBlock} → history ≡ [] → allStand F home (lastKeep history) (drop (lastKeep history - 1) history) (walkAt (believed (drop (lastKeep history - 1) history))) ≡ true
+unfolding allStand lastKeep
+ok-none F home e = rw e refl
+
+no-pages : (P : ℕ) (home : ℕ → List ℕ) {history : List LogBlock} → history ≡ [] → Pages P (walk home (lastKeep history) (drop (lastKeep history - 1) history) (walkAt (believed (drop (lastKeep history - 1) history))) .dirtyPages)
+unfolding walk lastKeep
+no-pages P home e = rw e tt
+
+module _ (z : Sizes) (log : List Slot) (home : ℕ → List ℕ) (b : Book) (history : List LogBlock) (big : 0 < z .N) (k : Kept z log home b history) where
+  abbrev pub kf : ℕ
+  kf = lastKeep history
+
+  abbrev pub bs : List LogBlock
+  bs = drop (kf - 1) history
+
+  abbrev pub vw : Walk
+  vw = walk home kf bs (walkAt (believed bs))
+
+  pub newest-is : newest log ≡ length history
+  newest-is = go (length history) refl
+    where
+      go : (n : ℕ) → length history ≡ n → newest log ≡ length history
+      go zero e = omega (arith, newest-le (length history) log (k .holds .past))
+      go (suc n) e = omega (
+        arith,
+        newest-le (length history) log (k .holds .past),
+        rw (k .holds .recent (length history) (omega arith) (omega arith) (omega arith)) at (newest-ge log (length history % z .N)),
+      )
+
+  pub reads-is : gathered (z .N) log ≡ blocks bs
+  reads-is = go (k .disk .keepFrom)
+    where
+      go : Keep history (b .m) → gathered (z .N) log ≡ blocks (drop (lastKeep history - 1) history)
+      go (empty e m) = rw (e, drop-nil) (reads-none (z .N) log (subst (Holds (z .N) log) e (k .holds)))
+      go (from g) = reads-hist (z .N) log history (lastKeep history) (k .holds) (omega (arith, begins-le g)) (last-keepFrom history (omega (arith, begins-le g))) (begins-le g .0) (begins-le g .1) (omega (arith, k .roomy))
+
+  keepFrom-is : newest log + 1 - length bs ≡ kf
+  keepFrom-is = go (k .disk .keepFrom)
+    where
+      go : Keep history (b .m) → newest log + 1 - length (drop (lastKeep history - 1) history) ≡ lastKeep history
+      go (empty e m) = omega (arith, length-drop (lastKeep history - 1) history, newest-is, one-keepFrom e, ap length e)
+      go (from g) = omega (arith, length-drop (lastKeep history - 1) history, newest-is, begins-le g)
+
+  keepFrom-is′ : length history + 1 - length bs ≡ kf
+  keepFrom-is′ = omega (arith, keepFrom-is, newest-is)
+
+  pub okay : allStand (z .F) home kf bs (walkAt (believed bs)) ≡ true
+  okay = go (k .disk .keepFrom)
+    where
+      go : Keep history (b .m) → allStand (z .F) home (lastKeep history) (drop (lastKeep history - 1) history) (walkAt (believed (drop (lastKeep history - 1) history))) ≡ true
+      go (empty e m) = ok-none (z .F) home e
+      go (from g) = rw (rest history (b .m) (lastKeep history) g)
+          (ok-from (z .F) (lastKeep history) (z .P) (lastKeep history) (0 + commits (g .pre)) home (g .block) (g .post) (view (g .pre)) (g .begins)
+          (λ p. subst (λ (n : ℕ). Below n (view (g .pre) p .page)) (g .place) (below-track p 1 (g .pre) noView (omega arith) (omega arith) Below.none))
+          (subst (λ (n : ℕ). Formed (z .F) (z .P) n (0 + commits (g .pre)) (view (g .pre)) (g .block ∷ g .post)) (g .place)
+          (formed-app (z .F) (z .P) 1 0 (λ p. noView) (g .pre) (g .block ∷ g .post) (subst (λ (x : List LogBlock). Formed (z .F) (z .P) 1 0 (λ p. noView) x) (g .split) (k .formed)))))
+
+  alive-now : Alive history home (recover home history) (gone b)
+  alive-now = inv-open (record { history = history; home = home; live = down }) b (k .disk)
+
+  pages-now : Pages (z .P) (vw .dirtyPages)
+  pages-now = go (k .disk .keepFrom)
+    where
+      go : Keep history (b .m) → Pages (z .P) (walk home (lastKeep history) (drop (lastKeep history - 1) history) (walkAt (believed (drop (lastKeep history - 1) history))) .dirtyPages)
+      go (empty e m) = no-pages (z .P) home e
+      go (from g) = rw (rest history (b .m) (lastKeep history) g)
+          (walk-pages (z .F) (z .P) (lastKeep history) (0 + commits (g .pre)) home (g .block ∷ g .post) (walkAt (g .block .ticket)) (view (g .pre))
+          (subst (λ (n : ℕ). Formed (z .F) (z .P) n (0 + commits (g .pre)) (view (g .pre)) (g .block ∷ g .post)) (g .place)
+          (formed-app (z .F) (z .P) 1 0 (λ p. noView) (g .pre) (g .block ∷ g .post) (subst (λ (x : List LogBlock). Formed (z .F) (z .P) 1 0 (λ p. noView) x) (g .split) (k .formed)))) tt tt)
+
+  pub fitting : length history + 1 - keepFromOf (length history + 1) (vw .dirtyPages) + length (vw .dirtyPages) ≤ z .N
+  unfolding recover
+  fitting =
+      let a : Alive history home (recover home history) (gone b) = alive-now in
+      let cd : tally (z .P) (dirtyOf history) ≡ length (vw .dirtyPages) = count-dirty z home (gone b) history (recover home history) a pages-now in
+      let kl : kf ≤ length history + 1 = kf-le (k .disk .keepFrom) in
+      let o : kf ≤ keepFromOf (length history + 1) (vw .dirtyPages) = oldest-ge kf (length history + 1) home (vw .dirtyPages) (a .distinct) (λ p e q. first-ge (k .disk .least p) (a .sees p) e q) kl in
+      omega (arith, k .roomy, cd, o)
+    where
+      kf-le : Keep history (b .m) → lastKeep history ≤ length history + 1
+      kf-le (empty e m) = small e
+      kf-le (from g) = omega (arith, begins-le g)
+
+  pub reports : vw .ticket ≡ b .m
+  unfolding recover
+  reports = alive-now .ticket
+
+  pub running : Runs z home (gone b) history (length history + 1) (opened vw)
+  unfolding recover
+  running = record { next = refl; alive = alive-now; pages = pages-now; places = tt }

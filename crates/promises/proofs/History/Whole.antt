@@ -1,0 +1,227 @@
+-- The invariant of the store over slots: a ghost history.
+use mathlib.Core.Path.{_≡_, refl, sym, ap, _∙_, subst, subst₂}
+use mathlib.Core.Logic.{_⊎_, inl, inr}
+use Prim.Native.Nat.{ℕ, zero, suc, _+_, _-_, _*_, _≤_, _<_, min}
+use native.Mathlib.Omega.{arith}
+use native.Mathlib.Nat.{zero-add, add-zero}
+use mathlib.Core.Bool.{Bool, true, false, cond, _&&_, _||_}
+use mathlib.Core.List.{List, [], _∷_, _++_}
+use lib.ListN.{length, take, drop, getD, length-append, length-take}
+use lib.Seq.{length-take-le}
+use lib.Dec.{eqb, ltb, leb}
+use borrow.Author.Tests.{eq-eqb, ne-eqb, lt-ltb, le-ltb, le-leb, lt-leb, leb-true}
+use Rattle.promises.proofs.History.Legal.{Legal}
+use Rattle.promises.specs.Updates.{Update, redo}
+use Rattle.promises.proofs.History.Views.{Page, tidy, dirty, updatesOf, View, noView, committedOver, viewBlock, viewFrom, Begins}
+use Rattle.promises.specs.Blocks.{Kind, update, commit, clean, LogBlock}
+use Rattle.promises.specs.Updates.{ofPage}
+use Rattle.promises.proofs.History.Machine.{lastKeep, Live, World, State, down, up, Cleaning, idle, second, third, noUpdate, updateLogged, commitLogged, cleaningAfter, setPage, cleanLogged, halfStored}
+use Rattle.promises.specs.DirtyPages.{DirtyPage, Found, absent, at, lookUp, apply, applyAll, without, keepFromOf}
+use Rattle.promises.proofs.History.Ledger.{Book}
+use Rattle.promises.proofs.History.Stored.{store}
+use Rattle.promises.specs.Blocks.{Slot}
+use Rattle.promises.proofs.History.Sizes.{Sizes}
+use Rattle.promises.proofs.History.Sees.{Sees, clear, by-eq}
+use Rattle.promises.proofs.History.WalkStart.{commits, isCommit, commits-app, lastKeep-snoc, Distinct, distinct-all}
+use Rattle.promises.proofs.History.Invariant.{view, view-snoc, Disk, Half, whole, part, Well, Wells, Alive, Inv, counted, inv-update, committed, inv-commit, inv-clean, inv-front, inv-back}
+use Rattle.promises.proofs.History.Ring.{Holds, holds-store}
+use Rattle.promises.proofs.History.Tally.{tally, tally-same, tally-look, here, Pages, isDirty, sees-here}
+use Rattle.promises.proofs.History.Accepted.{Ups, Formed, formed-snoc, Right, pages-all, pages-without}
+
+abbrev pub UpsQ : ℕ → List (List Update) → Type 0
+UpsQ P [] = Unit {0}
+UpsQ P (g ∷ q) = Ups P g × UpsQ P q
+
+abbrev pub dirtyOf : List LogBlock → ℕ → ℕ
+dirtyOf history p = isDirty (view history p .page)
+
+-- what log and home hold, with the history that was written
+pub record Kept (z : Sizes) (log : List Slot) (home : ℕ → List ℕ) (b : Book) (history : List LogBlock) : Type 0 where
+  pub holds : Holds (z .N) log history
+  pub formed : Formed (z .F) (z .P) 1 0 (λ p. noView) history
+  pub total : commits history ≡ b .m
+  pub roomy : length history + 1 - lastKeep history + tally (z .P) (dirtyOf history) ≤ z .N
+  pub disk : Disk history home (b .pages) (b .m)
+
+pub record Runs (z : Sizes) (home : ℕ → List ℕ) (b : Book) (history : List LogBlock) (n : ℕ) (l : Live) : Type 0 where
+  pub next : n ≡ length history + 1
+  pub alive : Alive history home l b
+  pub pages : Pages (z .P) (l .dirtyPages)
+  pub places : UpsQ (z .P) (l .queue)
+
+-- D is the count of dirty pages
+pub count-dirty : (z : Sizes) (home : ℕ → List ℕ) (b : Book) (history : List LogBlock) (l : Live) → Alive history home l b → Pages (z .P) (l .dirtyPages) → tally (z .P) (dirtyOf history) ≡ length (l .dirtyPages)
+count-dirty z home b history l a pg = tally-same (z .P) (dirtyOf history) (λ p. here (lookUp p (l .dirtyPages))) (λ p. sym (sees-here (a .sees p))) ∙ tally-look (z .P) (l .dirtyPages) (a .distinct) pg
+
+ups-at : (P : ℕ) (g : List Update) (n : ℕ) → n < length g → Ups P g → getD g n noUpdate .page < P
+ups-at P [] n h a = absurd (omega arith)
+ups-at P (u ∷ g) zero h a = a .0
+ups-at P (u ∷ g) (suc n) h a = ups-at P g n (omega arith) (a .1)
+
+-- the update that is stored next has the right index
+index-right : (history : List LogBlock) (m n : ℕ) (q : List (List Update)) → Half history m n q → (n + 1 ≡ 1) ⊎ ((0 < length (view history 0 .group)) × (n + 1 ≡ length (view history 0 .group) + 1))
+index-right history m n q (whole e) = inl (omega arith)
+index-right history m n q (part g r e z le pd st bg) =
+    let x : length (view history 0 .group) ≡ n = ap length (pd 0) ∙ length-take-le n g le in
+    inr (omega arith, omega arith)
+
+group-right : (history : List LogBlock) (m n : ℕ) (g : List Update) (q r : List (List Update)) → q ≡ g ∷ r → 0 < length g → length g ≤ n → Half history m n q → length (view history 0 .group) ≡ length g
+group-right history m n g q r e z h (whole y) = absurd (omega arith)
+group-right history m n g q r e z h (part g′ r′ e′ y le pd st bg) =
+    let s : g′ ≡ g = cc in
+    let x : length (view history 0 .group) ≡ n = ap length (pd 0) ∙ length-take-le n g′ le in
+    omega (arith, ap length s)
+
+-- ---- an update is stored
+module _ (z : Sizes) (log : List Slot) (home : ℕ → List ℕ) (b : Book) (history : List LogBlock) (l : Live) (big : 0 < z .N) (k : Kept z log home b history) (r : Runs z home b history (length history + 1) l) where
+  abbrev world : World
+  world = record { history = history; home = home; live = up l }
+
+  -- a block is added that is right, and leaves room
+  grown : (x : LogBlock) (b′ : Book) (home′ : ℕ → List ℕ) → Right (z .F) (z .P) (length history + 1) (b .m) (view history) (x .kind) (x .ticket)
+      → b′ .m ≡ b .m + isCommit (x .kind) → Disk (history ++ (x ∷ [])) home′ (b′ .pages) (b′ .m)
+      → length history + 2 - x .keepFrom + tally (z .P) (dirtyOf (history ++ (x ∷ []))) ≤ z .N
+      → Kept z (store (z .N) (length history + 1) x log) home′ b′ (history ++ (x ∷ []))
+  grown x b′ home′ rt em dk rm =
+      let ln : length (history ++ (x ∷ [])) ≡ length history + 1 = length-append history (x ∷ []) in
+      record {
+        holds = holds-store (z .N) log history x big (k .holds);
+        formed = formed-snoc (z .F) (z .P) 1 0 (λ p. noView) history x (k .formed) (subst (λ (n : ℕ). Right (z .F) (z .P) (length history + 1) n (view history) (x .kind) (x .ticket)) (omega (arith, k .total)) rt);
+        total = omega (arith, commits-app history (x ∷ []), k .total);
+        roomy = rw (lastKeep-snoc history x) (omega (arith, rm, ln));
+        disk = dk;
+      }
+
+length-touch : (s : ℕ) (home : ℕ → List ℕ) (u : Update) (es : List DirtyPage) → length (apply s home u es) ≤ length es + 1
+unfolding apply
+length-touch s home u [] = omega arith
+length-touch s home u (e ∷ es) = by-eq (u .page) (e .page)
+    (λ q. simp (eq-eqb _ _ q) (omega arith))
+    (λ n. simp (ne-eqb _ _ n) (omega (arith, length-touch s home u es)))
+
+pub length-all : (s : ℕ) (home : ℕ → List ℕ) (us : List Update) (es : List DirtyPage) → length (applyAll s home us es) ≤ length es + length us
+unfolding applyAll
+length-all s home [] es = omega arith
+length-all s home (u ∷ us) es = omega (arith, length-all s home us (apply s home u es), length-touch s home u es)
+
+without-le : (q : ℕ) (es : List DirtyPage) → length (without q es) ≤ length es
+unfolding without
+without-le q [] = omega arith
+without-le q (e ∷ es) = by-eq q (e .page)
+    (λ x. simp (eq-eqb _ _ x) (omega (arith, without-le q es)))
+    (λ n. simp (ne-eqb _ _ n) (omega (arith, without-le q es)))
+
+pub without-less : (q : ℕ) (e : DirtyPage) (es : List DirtyPage) → lookUp q es ≡ at e → length (without q es) + 1 ≤ length es
+unfolding without lookUp
+without-less q e [] f = let x : _≡_ {A = ℕ} 0 1 = cc in absurd (omega arith)
+without-less q e (y ∷ es) f = by-eq q (y .page)
+    (λ x. simp (eq-eqb _ _ x) (omega (arith, without-le q es)))
+    (λ n. simp (ne-eqb _ _ n) (omega (arith, without-less q e es (simp (ne-eqb _ _ n) at f))))
+
+pub oldest-without : (d q : ℕ) (es : List DirtyPage) → keepFromOf d es ≤ keepFromOf d (without q es)
+unfolding keepFromOf without
+oldest-without d q [] = omega arith
+oldest-without d q (e ∷ es) = by-eq q (e .page)
+    (λ x. simp (eq-eqb _ _ x) (omega (arith, oldest-without d q es)))
+    (λ n. simp (ne-eqb _ _ n) (omega (arith, oldest-without d q es)))
+
+-- what soundness says of a store that has a group to write
+pub record Room (z : Sizes) (n : ℕ) (l : Live) (g : List Update) : Type 0 where
+  pub slots : n - keepFromOf (n - l .count) (l .dirtyPages) + (length g + 1 - l .count) + length (l .dirtyPages) + length g ≤ z .N
+  pub frames : length (l .dirtyPages) + length g ≤ z .F
+
+module _ (z : Sizes) (log : List Slot) (home : ℕ → List ℕ) (b : Book) (history : List LogBlock) (l : Live) (big : 0 < z .N) (k : Kept z log home b history) (r : Runs z home b history (length history + 1) l) where
+  abbrev w₁ : World
+  w₁ = record { history = history; home = home; live = up l }
+
+  abbrev ublk : List Update → LogBlock
+  ublk g = record { kind = update (l .count + 1) (getD g (l .count) noUpdate); keepFrom = keepFromOf (length history + 1 - l .count) (l .dirtyPages); ticket = l .ticket }
+
+  abbrev ulive : Live
+  ulive = record { ticket = l .ticket; queue = l .queue; count = l .count + 1; dirtyPages = l .dirtyPages; cleaning = l .cleaning }
+
+  -- UPDATE
+  pub kept-update : (g : List Update) (q : List (List Update)) → l .queue ≡ g ∷ q → l .count < length g → Room z (length history + 1) l g
+      → Kept z (store (z .N) (length history + 1) (ublk g) log) home (counted b) (history ++ (ublk g ∷ [])) × Runs z home (counted b) (history ++ (ublk g ∷ [])) (length history + 2) ulive
+  unfolding updateLogged
+  kept-update g q e h rm =
+      let i : Inv (updateLogged w₁ l g) (counted b) = inv-update w₁ l b g q (k .disk) (r .alive) e h in
+      let a : Alive (history ++ (ublk g ∷ [])) home ulive (counted b) = i .lives in
+      let cd : tally (z .P) (dirtyOf (history ++ (ublk g ∷ []))) ≡ length (l .dirtyPages) = count-dirty z home (counted b) (history ++ (ublk g ∷ [])) ulive a (r .pages) in
+      let pq : UpsQ (z .P) (g ∷ q) = rw e at (r .places) in (
+        grown z log home b history l big k r (ublk g) (counted b) home
+            (index-right history (b .m) (l .count) (l .queue) (r .alive .half), ups-at (z .P) g (l .count) h (pq .0), r .alive .ticket)
+            (omega arith) (i .disk) (omega (arith, cd, rm .slots)),
+        record { next = omega (arith, length-append history (ublk g ∷ [])); alive = a; pages = r .pages; places = r .places },
+      )
+
+  abbrev cblk : List Update → LogBlock
+  cblk g = record { kind = commit (length g); keepFrom = keepFromOf (length history + 1 - l .count) (l .dirtyPages); ticket = l .ticket + 1 }
+
+  abbrev clive : List Update → List (List Update) → Live
+  clive g q = record { ticket = l .ticket + 1; queue = q; count = 0; dirtyPages = applyAll (length history + 1 - l .count) home g (l .dirtyPages); cleaning = cleaningAfter g (l .cleaning) }
+
+  -- COMMIT
+  pub kept-commit : (g : List Update) (q : List (List Update)) → l .queue ≡ g ∷ q → l .count ≡ length g → Room z (length history + 1) l g
+      → Kept z (store (z .N) (length history + 1) (cblk g) log) home (committed b g q) (history ++ (cblk g ∷ [])) × Runs z home (committed b g q) (history ++ (cblk g ∷ [])) (length history + 2) (clive g q)
+  unfolding commitLogged
+  kept-commit g q e h rm =
+      let i : Inv (commitLogged w₁ l g q) (committed b g q) = inv-commit w₁ l b g q (k .disk) (r .alive) e (omega arith) in
+      let a : Alive (history ++ (cblk g ∷ [])) home (clive g q) (committed b g q) = i .lives in
+      let pq : UpsQ (z .P) (g ∷ q) = rw e at (r .places) in
+      let ws : Wells (g ∷ q) = rw e at (r .alive .wells) in
+      let pg : Pages (z .P) (clive g q .dirtyPages) = pages-all (z .P) (length history + 1 - l .count) home g (l .dirtyPages) (pq .0) (r .pages) in
+      let cd : tally (z .P) (dirtyOf (history ++ (cblk g ∷ []))) ≡ length (clive g q .dirtyPages) = count-dirty z home (committed b g q) (history ++ (cblk g ∷ [])) (clive g q) a pg in
+      let le : length (clive g q .dirtyPages) ≤ length (l .dirtyPages) + length g = length-all (length history + 1 - l .count) home g (l .dirtyPages) in
+      let pr : length (view history 0 .group) ≡ length g = group-right history (b .m) (l .count) g (l .queue) q e (ws .0 .0) (omega arith) (r .alive .half) in
+      let sv : tally (z .P) (λ p. isDirty (viewBlock p (length history + 1) (commit (length g)) (view history p) .page)) ≡ tally (z .P) (dirtyOf (history ++ (cblk g ∷ []))) =
+      tally-same (z .P) _ _ (λ p. ap (λ (t : View). isDirty (t .page)) (sym (view-snoc history (cblk g) p))) in (
+        grown z log home b history l big k r (cblk g) (committed b g q) home
+            (omega arith, sym pr, ap (λ (n : ℕ). n + 1) (r .alive .ticket), omega (arith, sv, cd, le, rm .frames))
+            refl (i .disk) (omega (arith, cd, le, rm .slots)),
+        record { next = omega (arith, length-append history (cblk g ∷ [])); alive = a; pages = pg; places = pq .1 },
+      )
+
+  abbrev nblk : ℕ → LogBlock
+  nblk q = record { kind = clean q; keepFrom = keepFromOf (length history + 1) (without q (l .dirtyPages)); ticket = l .ticket }
+
+  abbrev nlive : ℕ → Live
+  nlive q = record { ticket = l .ticket; queue = l .queue; count = l .count; dirtyPages = without q (l .dirtyPages); cleaning = idle }
+
+  -- CLEAN BLOCK
+  pub kept-clean : (q : ℕ) (e : DirtyPage) → lookUp q (l .dirtyPages) ≡ at e → home q ≡ b .pages q → l .count ≡ 0
+      → length history + 1 - keepFromOf (length history + 1) (l .dirtyPages) + length (l .dirtyPages) ≤ z .N
+      → Kept z (store (z .N) (length history + 1) (nblk q) log) home b (history ++ (nblk q ∷ [])) × Runs z home b (history ++ (nblk q ∷ [])) (length history + 2) (nlive q)
+  unfolding cleanLogged
+  kept-clean q e f hp c0 rm =
+      let i : Inv (cleanLogged w₁ l q) b = inv-clean w₁ l b q (k .disk) (r .alive) hp c0 in
+      let a : Alive (history ++ (nblk q ∷ [])) home (nlive q) b = i .lives in
+      let pg : Pages (z .P) (without q (l .dirtyPages)) = pages-without (z .P) q (l .dirtyPages) (r .pages) in
+      let cd : tally (z .P) (dirtyOf (history ++ (nblk q ∷ []))) ≡ length (without q (l .dirtyPages)) = count-dirty z home b (history ++ (nblk q ∷ [])) (nlive q) a pg in
+      let ls : length (without q (l .dirtyPages)) + 1 ≤ length (l .dirtyPages) = without-less q e (l .dirtyPages) f in
+      let ol : keepFromOf (length history + 1) (l .dirtyPages) ≤ keepFromOf (length history + 1) (without q (l .dirtyPages)) = oldest-without (length history + 1) q (l .dirtyPages) in (
+        grown z log home b history l big k r (nblk q) b home (r .alive .ticket) (omega arith) (i .disk) (omega (arith, cd, ls, ol, rm)),
+        record { next = omega (arith, length-append history (nblk q ∷ [])); alive = a; pages = pg; places = r .places },
+      )
+
+  -- HALF A PAGE: the log is as it was
+  pub kept-half : (x : ℕ → List ℕ) (c : Cleaning) → Disk history x (b .pages) (b .m)
+      → Alive history x (record { ticket = l .ticket; queue = l .queue; count = l .count; dirtyPages = l .dirtyPages; cleaning = c }) b
+      → Kept z log x b history × Runs z x b history (length history + 1) (record { ticket = l .ticket; queue = l .queue; count = l .count; dirtyPages = l .dirtyPages; cleaning = c })
+  kept-half x c d a = (
+    record { holds = k .holds; formed = k .formed; total = k .total; roomy = k .roomy; disk = d },
+    record { next = refl; alive = a; pages = r .pages; places = r .places },
+  )
+
+pub count-le : (history : List LogBlock) (m n : ℕ) (x : List Update) (q r : List (List Update)) → q ≡ x ∷ r → Half history m n q → n ≤ length x
+count-le history m n x q r e (whole y) = omega arith
+count-le history m n x q r e (part g′ r′ e′ y le pd st bg) = let s : g′ ≡ x = cc in omega (arith, ap length s)
+
+pub places-app : (P : ℕ) (q : List (List Update)) (x : List Update) → UpsQ P q → Ups P x → UpsQ P (q ++ (x ∷ []))
+places-app P [] x a h = (h, tt)
+places-app P (y ∷ q) x a h = (a .0, places-app P q x (a .1) h)
+
+pub tally-none : (P : ℕ) → tally P (dirtyOf []) ≡ 0
+unfolding tally viewFrom
+tally-none zero = refl
+tally-none (suc P) = omega (arith, tally-none P)

@@ -1,0 +1,139 @@
+-- Soundness as a record of facts: what a sound state gives, and what makes a state sound.
+-- Assumes nothing.
+use mathlib.Core.Path.{_≡_, refl, sym, ap, _∙_}
+use mathlib.Core.Bool.{Bool, true, false, _&&_}
+use Prim.Native.Nat.{ℕ, _+_, _-_, _^_, _≤_, _<_}
+use native.Mathlib.Omega.{arith}
+use lib.ListN.{length, take, drop}
+use lib.Dec.{eqb, leb, ltb}
+use borrow.Author.Tests.{leb-true, ltb-true, eqb-true, le-leb, lt-ltb, eq-eqb}
+use Rattle.promises.specs.declared.State.{State}
+use Rattle.promises.specs.Contents.{groupsOf, total, allZeroState}
+use Rattle.promises.specs.Sums.{firstGroups, reservedUpdates, owedBlocks, slotsTaken, framesTaken, sequencesTaken}
+use Rattle.promises.specs.Sound.{
+  dirtyNumbers,
+  distinct,
+  allBelow,
+  allLegal,
+  sizesLegal,
+  ofOldest,
+  names,
+  stagedOf,
+  areasOf,
+  sizesSound,
+  dirtyPagesSound,
+  dirtyFramesSound,
+  firstGroupsSound,
+  ticketSound,
+  stagedAreasSound,
+  stagedPlacesSound,
+  groupsSound,
+  reservationSound,
+  halfGroupSound,
+  cleaningSound,
+  slotSumSound,
+  frameSumSound,
+  sequenceSumSound,
+  sound,
+}
+
+pub and-both : (a b : Bool) → (a && b) ≡ true → (a ≡ true) × (b ≡ true)
+and-both true b e = (refl, e)
+and-both false b e = let z : _≡_ {A = ℕ} 0 1 = cc in absurd (omega arith)
+
+pub and2 : {a b : Bool} → a ≡ true → b ≡ true → (a && b) ≡ true
+and2 e f = rw (e, f)
+
+pub record Sound (s : State) : Type 0 where
+  pub pages : (1 ≤ s .pages) × (s .pages ≤ 4096)
+  pub slots : (8 ≤ s .slots) × (s .slots ≤ 1024)
+  pub frames : (1 ≤ s .frames) × (s .frames ≤ 32)
+  pub distinctPages : distinct (dirtyNumbers (s .dirty)) ≡ true
+  pub pagesBelow : allBelow (s .pages) (dirtyNumbers (s .dirty)) ≡ true
+  pub framesBelow : length (firstGroups (drop (s .frames) (s .dirty))) ≡ 0
+  pub firstsBelow : allBelow (s .next) (firstGroups (s .dirty)) ≡ true
+  pub ticket : s .ticket < s .next - s .stored
+  pub distinctAreas : distinct (areasOf (stagedOf s)) ≡ true
+  pub areasBelow : allBelow (s .frames) (areasOf (stagedOf s)) ≡ true
+  pub places : allLegal (s .pages) (stagedOf s) ≡ true
+  pub groups : sizesLegal (groupsOf s) ≡ true
+  pub queued : s .queued ≤ length (s .groups)
+  pub staged : total (groupsOf s) + s .described ≤ length (s .staged)
+  pub reserved : s .reserved ≤ 16
+  pub described : s .described ≤ s .reserved
+  pub stored : ofOldest (s .stored) (groupsOf s) ≡ true
+  pub cleaning : names (s .cleaning) (dirtyNumbers (s .dirty)) ≡ true
+  pub slotSum : slotsTaken s + reservedUpdates s + owedBlocks s ≤ s .slots
+  pub frameSum : framesTaken s + reservedUpdates s ≤ s .frames
+  pub sequenceSum : sequencesTaken s ≤ 2 ^ 48
+
+pub sound-of : (s : State) → sound s ≡ true → Sound s
+unfolding sound
+sound-of s h =
+    let a14 = and-both _ (sequenceSumSound s) h in
+    let a13 = and-both _ (frameSumSound s) (a14 .0) in
+    let a12 = and-both _ (slotSumSound s) (a13 .0) in
+    let a11 = and-both _ (cleaningSound s) (a12 .0) in
+    let a10 = and-both _ (halfGroupSound s) (a11 .0) in
+    let a9 = and-both _ (reservationSound s) (a10 .0) in
+    let a8 = and-both _ (groupsSound s) (a9 .0) in
+    let a7 = and-both _ (stagedPlacesSound s) (a8 .0) in
+    let a6 = and-both _ (stagedAreasSound s) (a7 .0) in
+    let a5 = and-both _ (ticketSound s) (a6 .0) in
+    let a4 = and-both _ (firstGroupsSound s) (a5 .0) in
+    let a3 = and-both _ (dirtyFramesSound s) (a4 .0) in
+    let a2 = and-both (sizesSound s) (dirtyPagesSound s) (a3 .0) in
+    let z2 = and-both (leb 8 (s .slots) && leb (s .slots) 1024 && (leb 1 (s .pages) && leb (s .pages) 4096)) (leb 1 (s .frames) && leb (s .frames) 32) (a2 .0) in
+    let z1 = and-both (leb 8 (s .slots) && leb (s .slots) 1024) (leb 1 (s .pages) && leb (s .pages) 4096) (z2 .0) in
+    let n = and-both (leb 8 (s .slots)) (leb (s .slots) 1024) (z1 .0) in
+    let p = and-both (leb 1 (s .pages)) (leb (s .pages) 4096) (z1 .1) in
+    let f = and-both (leb 1 (s .frames)) (leb (s .frames) 32) (z2 .1) in
+    let d = and-both (distinct (dirtyNumbers (s .dirty))) (allBelow (s .pages) (dirtyNumbers (s .dirty))) (a2 .1) in
+    let a = and-both (distinct (areasOf (stagedOf s))) (allBelow (s .frames) (areasOf (stagedOf s))) (a6 .1) in
+    let g2 =
+    and-both (sizesLegal (groupsOf s) && leb (s .queued) (length (s .groups))) (leb (total (groupsOf s) + s .described) (length (s .staged))) (a8 .1) in
+    let g = and-both (sizesLegal (groupsOf s)) (leb (s .queued) (length (s .groups))) (g2 .0) in
+    let r = and-both (leb (s .reserved) 16) (leb (s .described) (s .reserved)) (a9 .1) in
+    record {
+      pages = (leb-true _ _ (p .0), leb-true _ _ (p .1));
+      slots = (leb-true _ _ (n .0), leb-true _ _ (n .1));
+      frames = (leb-true _ _ (f .0), leb-true _ _ (f .1));
+      distinctPages = d .0;
+      pagesBelow = d .1;
+      framesBelow = eqb-true _ _ (a3 .1);
+      firstsBelow = a4 .1;
+      ticket = ltb-true _ _ (a5 .1);
+      distinctAreas = a .0;
+      areasBelow = a .1;
+      places = a7 .1;
+      groups = g .0;
+      queued = leb-true _ _ (g .1);
+      staged = leb-true _ _ (g2 .1);
+      reserved = leb-true _ _ (r .0);
+      described = leb-true _ _ (r .1);
+      stored = a10 .1;
+      cleaning = a11 .1;
+      slotSum = leb-true _ _ (a12 .1);
+      frameSum = leb-true _ _ (a13 .1);
+      sequenceSum = leb-true _ _ (a14 .1);
+    }
+
+pub of-sound : (s : State) → Sound s → sound s ≡ true
+unfolding sound
+of-sound s f =
+    let sizes : sizesSound s ≡ true =
+    and2
+    (and2 (and2 (le-leb _ _ (f .slots .0)) (le-leb _ _ (f .slots .1))) (and2 (le-leb _ _ (f .pages .0)) (le-leb _ _ (f .pages .1))))
+    (and2 (le-leb _ _ (f .frames .0)) (le-leb _ _ (f .frames .1))) in
+    let groups : groupsSound s ≡ true = and2 (and2 (f .groups) (le-leb _ _ (f .queued))) (le-leb _ _ (f .staged)) in
+    let reservation : reservationSound s ≡ true = and2 (le-leb _ _ (f .reserved)) (le-leb _ _ (f .described)) in
+    let a3 = and2 (and2 sizes (and2 (f .distinctPages) (f .pagesBelow))) (eq-eqb _ _ (f .framesBelow)) in
+    let a6 = and2 (and2 (and2 a3 (f .firstsBelow)) (lt-ltb _ _ (f .ticket))) (and2 (f .distinctAreas) (f .areasBelow)) in
+    let a9 = and2 (and2 (and2 a6 (f .places)) groups) reservation in
+    let a11 = and2 (and2 a9 (f .stored)) (f .cleaning) in
+    and2 (and2 (and2 a11 (le-leb _ _ (f .slotSum))) (le-leb _ _ (f .frameSum))) (le-leb _ _ (f .sequenceSum))
+
+-- the all-zero state is not sound
+pub all-zero-unsound : sound allZeroState ≡ false
+unfolding sound
+all-zero-unsound = refl

@@ -1,0 +1,170 @@
+-- DEMAND 3: every list of calls and cuts from Format's end on, beside its book.
+-- Assumes nothing.
+use mathlib.Core.Path.{_≡_}
+use mathlib.Core.Logic.{_⊎_}
+use Prim.Native.Nat.{ℕ, _+_, _≤_, _<_}
+use mathlib.Core.Bool.{Bool, true, false, cond}
+use mathlib.Core.List.{List, [], _∷_, _++_}
+use lib.ListN.{length}
+use lib.Dec.{leb, ltb}
+use Rattle.promises.specs.declared.Answer.{Answer}
+use Rattle.promises.specs.Areas.{pageAt, logLength, homeLength, slotsInRange, pagesInRange, framesInRange}
+use Rattle.promises.specs.Updates.{Update, redo, ofPage}
+use Rattle.promises.specs.Contents.{allZeroState}
+use Rattle.promises.specs.Format.{Formats}
+use Rattle.promises.specs.Book.{Book, blank, begun, described, ended, ticketGiven, stepped, gone}
+use Rattle.promises.specs.Events.{
+  Sizes,
+  World,
+  withState,
+  Call,
+  opening,
+  begin,
+  describe,
+  ending,
+  logStep,
+  cleanStep,
+  reading,
+  settling,
+  Reply,
+  refuses,
+  done,
+  gives,
+  settles,
+  shows,
+  says,
+  accepts,
+  Step,
+  Lent,
+  fallen,
+}
+
+-- what the book makes of a call that is accepted, or refused
+abbrev pub entered : Call → Bool → Book → Book
+entered (opening frames staging) accepted book = gone book
+entered (begin u) accepted book = cond accepted (begun book) book
+entered (describe update) accepted book = cond accepted (described update book) book
+entered ending accepted book = cond accepted (ended book) book
+entered logStep accepted book = cond accepted (stepped book) book
+entered cleanStep accepted book = book
+entered (reading page) accepted book = book
+entered (settling ticket) accepted book = book
+
+-- and of a cut: a Log step cut after its store is done first
+abbrev pub cutAt : Call → Bool → Book → Book
+cutAt (opening frames staging) stored book = gone book
+cutAt (begin u) stored book = gone book
+cutAt (describe update) stored book = gone book
+cutAt ending stored book = gone book
+cutAt logStep stored book = gone (cond stored (stepped book) book)
+cutAt cleanStep stored book = gone book
+cutAt (reading page) stored book = gone book
+cutAt (settling ticket) stored book = gone book
+
+-- a call's block got stored at a cut: the call would have been accepted
+abbrev pub both : Bool → Bool → Bool
+both true b = b
+both false b = false
+
+-- ---- the lists of events, each with the world and the book that it leads to
+pub data Run (sizes : Sizes) : World → Book → Type 0 where
+  -- Format's end: home as found, the all-zero state, any bytes in frames and staging
+  formatted : {world : World} {book : Book} (log log′ home frames staging : List ℕ) (answer : Answer)
+      → length log ≡ logLength (sizes .slots) → length home ≡ homeLength (sizes .pages) → Formats log answer log′
+      → world ≡ record { state = allZeroState; log = log′; home = home; frames = frames; staging = staging } → book ≡ blank home
+      → Run sizes world book
+  -- a call
+  called : {world world′ : World} {book book′ : Book} (call : Call) (reply : Reply) → Run sizes world book → Lent sizes call
+      → Step call world reply world′ → book′ ≡ entered call (accepts reply) book → Run sizes world′ book′
+  -- a call that is lent other areas, and refused with 1 or 2
+  unfit : {world world′ : World} {book book′ : Book} (call : Call) (reply : Reply) (lent lent′ : World) → Run sizes world book
+      → lent .state ≡ world .state → Step call lent reply lent′ → (reply ≡ refuses 1) ⊎ (reply ≡ refuses 2)
+      → world′ ≡ withState world (lent′ .state) → book′ ≡ entered call false book → Run sizes world′ book′
+  -- a cut at a call: log and home as before it or after it, its block old or new
+  cut : {world world″ : World} {book book″ : Book} (call : Call) (reply : Reply) (world′ : World) (stored : Bool) (frames staging : List ℕ)
+      → Run sizes world book → Lent sizes call → Step call world reply world′
+      → world″ ≡ fallen (cond stored world′ world) frames staging → book″ ≡ cutAt call (both stored (accepts reply)) book
+      → Run sizes world″ book″
+  -- a cut at a call that is lent other areas, and would be refused with 1 or 2
+  cutUnfit : {world world″ : World} {book book″ : Book} (call : Call) (reply : Reply) (lent lent′ : World) (frames staging : List ℕ)
+      → Run sizes world book → lent .state ≡ world .state → Step call lent reply lent′ → (reply ≡ refuses 1) ⊎ (reply ≡ refuses 2)
+      → world″ ≡ fallen world frames staging → book″ ≡ cutAt call false book → Run sizes world″ book″
+
+-- ---- the answers: what the book says of an accepted call
+abbrev pub Right : Call → Reply → Book → Type 0
+Right (opening frames staging) reply book = reply ≡ settles (book .m)
+Right (begin u) reply book = reply ≡ done
+Right (describe update) reply book = reply ≡ done
+Right ending reply book = reply ≡ gives (ticketGiven book)
+-- m is reported exactly when the step commits
+Right logStep reply book = reply ≡ cond (ltb (book .m) (stepped book .m)) (settles (stepped book .m)) done
+Right cleanStep reply book = reply ≡ done
+Right (reading page) reply book = reply ≡ shows (book .pages page)
+Right (settling ticket) reply book = reply ≡ says (leb ticket (book .m))
+
+pub record Safe (sizes : Sizes) (world : World) (book : Book) : Type 0 where
+  -- whatever is called next answers what the book says, if it is accepted
+  pub answers : (call : Call) (reply : Reply) (world′ : World) → Lent sizes call → Step call world reply world′ → accepts reply ≡ true
+      → Right call reply book
+  -- the next opening is accepted and reports m
+  pub opens : (frames staging : List ℕ) (reply : Reply) (world′ : World) → Lent sizes (opening frames staging)
+      → Step (opening frames staging) world reply world′ → reply ≡ settles (book .m)
+  -- after it every page is shown, and is the book's
+  pub reads : (frames staging : List ℕ) (reply : Reply) (world′ : World) → Lent sizes (opening frames staging)
+      → Step (opening frames staging) world reply world′ → (page : ℕ) (answer : Reply) (world″ : World) → page < sizes .pages
+      → Step (reading page) world′ answer world″ → answer ≡ shows (book .pages page)
+
+pub record InRange (sizes : Sizes) : Type 0 where
+  pub slots : slotsInRange (sizes .slots) ≡ true
+  pub pages : pagesInRange (sizes .pages) ≡ true
+  pub frames : framesInRange (sizes .frames) ≡ true
+
+abbrev pub Claim : Type 0
+Claim = (sizes : Sizes) → InRange sizes → (world : World) (book : Book) → Run sizes world book → Safe sizes world book
+
+-- ---- the book's pages, by the transactions that were committed
+
+-- the transaction that a Log step commits, if it does
+abbrev pub leaving : ℕ → List (List Update) → List (List Update)
+leaving count [] = []
+leaving count (group ∷ rest) = cond (ltb (length group) (count + 1)) (group ∷ []) []
+
+abbrev pub commitsOf : Call → Bool → Book → List (List Update)
+commitsOf (opening frames staging) stored book = []
+commitsOf (begin u) stored book = []
+commitsOf (describe update) stored book = []
+commitsOf ending stored book = []
+commitsOf logStep stored book = cond stored (leaving (book .count) (book .queue)) []
+commitsOf cleanStep stored book = []
+commitsOf (reading page) stored book = []
+commitsOf (settling ticket) stored book = []
+
+-- the transactions that a run committed, in ticket order
+unfoldable pub committedBy : {sizes : Sizes} {world : World} {book : Book} → Run sizes world book → List (List Update)
+committedBy (formatted log log′ home frames staging answer logLong homeLong formats worldIs bookIs) = []
+committedBy (called {book = book} call reply run lent step bookIs) = committedBy run ++ commitsOf call (accepts reply) book
+committedBy (unfit call reply lent lent′ run same step refused worldIs bookIs) = committedBy run
+committedBy (cut {book = book} call reply world′ stored frames staging run lent step worldIs bookIs) =
+    committedBy run ++ commitsOf call (both stored (accepts reply)) book
+committedBy (cutUnfit call reply lent lent′ frames staging run same step refused worldIs bookIs) = committedBy run
+
+-- home as found at formatting
+unfoldable pub foundBy : {sizes : Sizes} {world : World} {book : Book} → Run sizes world book → List ℕ
+foundBy (formatted log log′ home frames staging answer logLong homeLong formats worldIs bookIs) = home
+foundBy (called call reply run lent step bookIs) = foundBy run
+foundBy (unfit call reply lent lent′ run same step refused worldIs bookIs) = foundBy run
+foundBy (cut call reply world′ stored frames staging run lent step worldIs bookIs) = foundBy run
+foundBy (cutUnfit call reply lent lent′ frames staging run same step refused worldIs bookIs) = foundBy run
+
+-- transactions one after the other
+abbrev pub together : List (List Update) → List Update
+together [] = []
+together (group ∷ rest) = group ++ together rest
+
+-- m counts the committed transactions, and the pages are what they make, in ticket order, of the pages at formatting
+pub record Accounts {sizes : Sizes} {world : World} {book : Book} (run : Run sizes world book) : Type 0 where
+  pub counts : length (committedBy run) ≡ book .m
+  pub pagesAre : (page : ℕ) → book .pages page ≡ redo (ofPage page (together (committedBy run))) (pageAt (foundBy run) page)
+
+abbrev pub BookClaim : Type 0
+BookClaim = (sizes : Sizes) (world : World) (book : Book) (run : Run sizes world book) → Accounts run

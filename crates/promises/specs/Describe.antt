@@ -1,0 +1,59 @@
+-- What Describe promises. Describe (page, offset, bytes), lent staging: 2; 1; 4; 3; 5.
+-- Assumes nothing.
+use Prim.Native.Nat.{ℕ, _+_, _<_}
+use mathlib.Core.Path.{_≡_}
+use mathlib.Core.Bool.{false, cond}
+use mathlib.Core.List.{List, [], _∷_, _++_}
+use lib.ListN.{length}
+use lib.Dec.{eqb, ltb}
+use Rattle.block.specs.Legal.{legalPlace}
+use Rattle.promises.specs.declared.State.{State}
+use Rattle.promises.specs.declared.Answer.the-variants.{Done}
+use Rattle.promises.specs.declared.Outcome.{Outcome}
+use Rattle.promises.specs.Areas.{stagingLength, withStaged}
+use Rattle.promises.specs.Updates.{Update}
+use Rattle.promises.specs.Contents.{Contents, contentsOf}
+use Rattle.promises.specs.Sound.{sound, member, areasOf, stagedOf}
+use Rattle.promises.specs.Answers.{refusalIn}
+use Rattle.promises.specs.Leaves.{Leaves}
+
+-- of the lengths of staging and of the bytes
+unfoldable pub describeRefusal : State → ℕ → ℕ → ℕ → ℕ → ℕ
+describeRefusal state staging page offset count =
+    cond (sound state)
+    (cond (eqb staging (stagingLength (state .frames)))
+    (cond (eqb (state .reserved) 0) 4
+    (cond (legalPlace (state .pages) page offset count)
+    (cond (ltb (state .described) (state .reserved)) 0 5) 3)) 1) 2
+
+-- the update goes to the end of the open transaction's list
+abbrev pub described : Contents → Update → Contents
+described contents update = record {
+  pages = contents .pages;
+  slots = contents .slots;
+  frames = contents .frames;
+  next = contents .next;
+  ticket = contents .ticket;
+  queue = contents .queue;
+  stored = contents .stored;
+  reserved = contents .reserved;
+  list = contents .list ++ (update ∷ []);
+  cleaning = contents .cleaning;
+}
+
+-- left to the program: the staging area that the update gets, below F and held by no waiting update. Its first bytes become the new
+-- bytes; no other byte of staging changes
+pub record DescribeStep (state : State) (update : Update) (staging : List ℕ) (result : Outcome) (staging′ : List ℕ) : Type 0 where
+  pub area : ℕ
+  pub areaBelow : area < state .frames
+  pub areaFree : member area (areasOf (stagedOf state)) ≡ false
+  pub stagingIs : staging′ ≡ withStaged staging area (length (update .bytes)) (update .bytes)
+  pub answerIs : result .answer ≡ Done
+  pub leaves : Leaves state (result .state) staging′ (described (contentsOf state staging) update)
+
+pub record Describes (state : State) (update : Update) (staging : List ℕ) (result : Outcome) (staging′ : List ℕ) : Type 0 where
+  pub refusal : refusalIn (result .answer) ≡ describeRefusal state (length staging) (update .page) (update .offset) (length (update .bytes))
+  pub refused : (describeRefusal state (length staging) (update .page) (update .offset) (length (update .bytes)) ≡ 0 → ⊥)
+      → (result .state ≡ state) × (staging′ ≡ staging)
+  pub accepted : describeRefusal state (length staging) (update .page) (update .offset) (length (update .bytes)) ≡ 0
+      → DescribeStep state update staging result staging′

@@ -1,0 +1,122 @@
+// The page store's state and the answers of its calls, as declared types. What each call promises stands in specs/, one file to a
+// call; demand 3 is proved from these promises alone in proofs/Demand3.antt. No call is written here.
+
+// What a frame holds: a dirty page and its first group. First group 0: the frame is free.
+pub struct Dirty {
+    pub page: u16,
+    pub first: u64,
+}
+
+// An update that waits for its commit. Its bytes are the first of its staging area.
+pub struct Staged {
+    pub page: u16,
+    pub offset: u16,
+    pub length: u16,
+    pub area: u8,
+}
+
+// A cleaning is idle, or at its first, second or third store of a named page.
+pub enum Cleaning {
+    Idle,
+    First(u16),
+    Second(u16),
+    Third(u16),
+}
+
+// All that the store keeps between calls, apart from the four areas.
+pub struct State {
+    // the counts of home's pages, of the log's slots and of frames
+    pub pages: usize,
+    pub slots: usize,
+    pub frames: usize,
+    // the sequence after the newest block
+    pub next: u64,
+    // the last committed ticket
+    pub ticket: u64,
+    // the dirty pages, each in its frame's place
+    pub dirty: [Dirty; 32],
+    // the staged updates: those of the queued groups, oldest first, then those of the open transaction
+    pub staged: [Staged; 32],
+    // how many updates each queued group has, oldest first
+    pub groups: [u8; 32],
+    // how many groups are queued
+    pub queued: usize,
+    // how many updates of the oldest queued group are stored
+    pub stored: usize,
+    // how many updates the open transaction reserved; 0: none is open
+    pub reserved: usize,
+    // how many updates the open transaction has described
+    pub described: usize,
+    pub cleaning: Cleaning,
+}
+
+// Why a call is refused: the paper's refusals 1 to 11, in its order.
+pub enum Refusal {
+    WrongLength,
+    NotSound,
+    OutOfRange,
+    WrongMoment,
+    Full,
+    SequencesUsedUp,
+    LogDamaged,
+    LogOutOfOrder,
+    TooFewFrames,
+    NothingToDo,
+    HeldBack,
+}
+
+// What Format, Begin, Describe and Clean step answer.
+pub enum Answer {
+    Refused(Refusal),
+    Done,
+}
+
+// What End answers: the transaction's ticket.
+pub enum Ended {
+    Refused(Refusal),
+    Ticket(u64),
+}
+
+// What Log step answers: an update was stored; or the commit was, and its ticket is settled.
+pub enum Logged {
+    Refused(Refusal),
+    Stored,
+    Settled(u64),
+}
+
+// What Open answers: the refusal with the place in the log, or the last committed ticket, which is settled.
+pub enum Opened {
+    Refused(Refusal, u64),
+    Settled(u64),
+}
+
+// What Settled answers.
+pub enum Standing {
+    Refused(Refusal),
+    Yes,
+    No,
+}
+
+// What Begin, Describe and Clean step hand back.
+pub struct Outcome {
+    pub state: State,
+    pub answer: Answer,
+}
+
+// What End hands back.
+pub struct EndOutcome {
+    pub state: State,
+    pub answer: Ended,
+}
+
+// What Log step hands back.
+pub struct LogOutcome {
+    pub state: State,
+    pub answer: Logged,
+}
+
+// What Open hands back.
+pub struct OpenOutcome {
+    pub state: State,
+    pub answer: Opened,
+}
