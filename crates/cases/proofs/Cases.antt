@@ -1,4 +1,4 @@
--- The cases of document 01 that need the block format only are as the paper says.
+-- The worked cases are as the paper says: the starred ones as one statement, and cases 10 to 12.
 -- Assumes nothing.
 use mathlib.Core.Path.{refl}
 use Rattle.area.specs.Part.{part}
@@ -8,8 +8,23 @@ use Rattle.block.specs.Kind.{kindOf}
 use Rattle.block.specs.Layout.{middle, header, body, check, layout}
 use Rattle.block.specs.Legal.{legal}
 use Rattle.block.specs.Slot.{allZero, same, numberAt, fieldsAt, blockAt, valid, judged}
-use Rattle.cases.specs.Cases.{Right, blockCases}
+use Rattle.promises.specs.Updates.{put}
+use Rattle.promises.specs.Blocks.{written, slotAt, slotsFrom}
+use Rattle.promises.specs.DirtyPages.{lookUp, apply, applyAll, without, keepFromOf}
+use Rattle.promises.specs.Newest.{newest, gather, allUnused, gathered}
+use Rattle.promises.specs.Walk.{walkBlock, inOrder, framed, walkFrom, finding}
+use Rattle.promises.specs.Sums.{firstGroups}
+use Rattle.promises.specs.Sound.{dirtyNumbers, sound}
+use Rattle.promises.specs.Begin.{beginRefusal}
+use Rattle.promises.specs.Read.{readRefusal}
+use Rattle.cases.specs.Case.{Right}
+use Rattle.cases.specs.BlockCases.{blockCases}
+use Rattle.cases.specs.StoreCases.{blocksFrom, logOf, homeBytes, told, starredCases, furtherCases}
 
-pub cases-right : Right blockCases
-unfolding blockCases part toBytes fromBytes plain weighted checkA checkB kindOf middle header body check layout legal allZero same numberAt fieldsAt blockAt valid judged
-cases-right = (refl, (refl, (refl, (refl, (refl, (refl, (refl, (refl, (refl, (refl, (refl, tt)))))))))))
+pub starred-right : Right starredCases
+unfolding starredCases blockCases part toBytes fromBytes plain weighted checkA checkB kindOf middle header body check layout legal allZero same numberAt fieldsAt blockAt valid judged put written slotAt slotsFrom lookUp apply applyAll without keepFromOf newest gather allUnused gathered walkBlock inOrder framed walkFrom finding blocksFrom logOf homeBytes told
+starred-right = (refl, (refl, (refl, (refl, (refl, (refl, (refl, (refl, (refl, (refl, (refl, (refl, (refl, (refl, tt))))))))))))))
+
+pub further-right : Right furtherCases
+unfolding furtherCases part toBytes fromBytes plain weighted checkA checkB kindOf middle header body check layout legal allZero same numberAt fieldsAt blockAt valid judged put written slotAt slotsFrom lookUp apply applyAll without keepFromOf newest gather allUnused gathered walkBlock inOrder framed walkFrom finding blocksFrom logOf homeBytes told beginRefusal readRefusal sound firstGroups dirtyNumbers
+further-right = (refl, (refl, (refl, tt)))

@@ -1,1 +1,3 @@
-pub mod Cases
+pub mod Case
+pub mod BlockCases
+pub mod StoreCases

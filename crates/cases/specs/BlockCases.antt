@@ -1,12 +1,11 @@
--- The starred cases of document 01's "Checked by hand", for a log of 8 slots and a home of 4 pages: what the definitions give, and what
--- the paper says.
+-- Cases 1 to 4, 8 and 9 of document 01's "Checked by hand": those that need the block format only. 8 slots, 4 pages.
 -- Assumes nothing.
 use Prim.Native.Nat.{ℕ}
-use mathlib.Core.Path.{_≡_}
 use mathlib.Core.Bool.{Bool, true, false}
 use mathlib.Core.List.{List, [], _∷_}
 use lib.ListN.{replicate}
 use Rattle.area.specs.Part.{part}
+use Rattle.cases.specs.Case.{Case}
 use Rattle.block.specs.Sizes.{blockSize, bodySize}
 use Rattle.block.specs.Kind.{updateBlock, commitBlock, cleanBlock}
 use Rattle.block.specs.Layout.{check, layout}
@@ -15,17 +14,6 @@ use Rattle.block.specs.Slot.{judged}
 use Rattle.block.specs.declared.Block.{Block}
 use Rattle.block.specs.declared.Judged.{Judged}
 use Rattle.block.specs.declared.Judged.the-variants.{Unused, Damaged, Valid}
-
--- a case: its number in the paper, what the definitions give, what the paper says
-pub record Case : Type 0 where
-  pub number : ℕ
-  pub found : List ℕ
-  pub expected : List ℕ
-
--- every case of a list is as the paper says
-abbrev pub Right : List Case → Type 0
-Right [] = Unit {0}
-Right (case ∷ cases) = (case .found ≡ case .expected) × Right cases
 
 -- ---- answers as numbers
 
