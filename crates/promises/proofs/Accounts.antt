@@ -11,7 +11,7 @@ use Rattle.promises.specs.Areas.{pageAt}
 use Rattle.promises.specs.Updates.{Update, redo, ofPage}
 use Rattle.promises.specs.Book.{Book, blank, counted, committed, steppedOver}
 use Rattle.promises.specs.Events.{Sizes, World, Call, opening, begin, describe, ending, logStep, cleanStep, reading, settling, accepts}
-use Rattle.promises.proofs.History.Sees.{redo-app}
+use Rattle.promises.proofs.History.Sees.{redo-append}
 use Rattle.promises.specs.Claim.{
   entered,
   cutAt,
@@ -62,7 +62,7 @@ one-more home gs g b k = record {
   count = length-append gs (g ∷ []) ∙ omega (arith, k .count);
   made = λ p.
       ap (redo (ofPage p g)) (k .made p)
-      ∙ sym (redo-app (ofPage p (together gs)) (ofPage p g) (pageAt home p))
+      ∙ sym (redo-append (ofPage p (together gs)) (ofPage p g) (pageAt home p))
       ∙ ap (λ (us : List Update). redo us (pageAt home p)) (sym (ofPage-append p (together gs) g))
       ∙ ap (λ (us : List Update). redo (ofPage p us) (pageAt home p)) (sym (together-snoc gs g));
 }

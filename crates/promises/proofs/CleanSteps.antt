@@ -29,7 +29,7 @@ use Rattle.promises.proofs.History.Machine as machine
 use Rattle.promises.proofs.History.Ledger as ledger
 use Rattle.promises.proofs.History.Stored.{store}
 use Rattle.promises.proofs.History.Sees.{by-eq, Sees}
-use Rattle.promises.proofs.History.Invariant.{Inv, Stage, frame-right, inv-front, inv-back, Disk, Alive, view}
+use Rattle.promises.proofs.History.Invariant.{Inv, Stage, frame-right, invariant-front, invariant-back, Disk, Alive, view}
 use Rattle.promises.proofs.History.Whole.{Kept, Runs, kept-clean, kept-half}
 use Rattle.promises.specs.Book.{Book}
 use Rattle.promises.specs.Events.{Sizes, World, Call, cleanStep, Reply, accepts}
@@ -40,7 +40,7 @@ use Rattle.block.proofs.Facts.{NumberFacts}
 use Rattle.promises.proofs.Pages.{first-half, second-half, first-other, second-other}
 use Rattle.promises.proofs.Slots.{KindFits}
 use Rattle.promises.proofs.SoundFacts.{Facts, facts}
-use Rattle.promises.proofs.Kept.{sizesOf, bookOf, liveOf, stageOf, Lives, Good, look-page, Matches, lives-from}
+use Rattle.promises.proofs.Kept.{sizesOf, bookOf, liveOf, stageOf, Lives, Good, lookUp-page, Matches, lives-from}
 use Rattle.promises.proofs.LogSteps.{keep-facts, stored-long, stored-slots}
 
 same-page : (q : ℕ) (x : List ℕ) (home : ℕ → List ℕ) → setPage q x home q ≡ x
@@ -88,7 +88,7 @@ module _ (z : Sizes) (range : Ranged z) (w : World) (b : Book) (gd : Good z w b)
   ready q e f so =
       let l : Lives z w b (gd .history) (gd .home) (gd .pages) = gd .live so in
       let r = l .runs in
-      let h : q < z .pages = look-page (z .pages) q e (dirtyOf s (w .frames)) f (r .pages) in
+      let h : q < z .pages = lookUp-page (z .pages) q e (dirtyOf s (w .frames)) f (r .pages) in
       let fr : e .bytes ≡ gd .pages q = frame-right _ _ e _ (subst (λ (x : Found). Sees (gd .home q) x (view (gd .history) q .page)) f (r .alive .sees q)) (gd .kept .disk .right q) in
       record {
         lives = l;
@@ -131,7 +131,7 @@ module _ (z : Sizes) (range : Ranged z) (w : World) (b : Book) (gd : Good z w b)
   front-good q e f so t se dy =
       let r : Ready q e = ready q e f so in
       let x : List ℕ = take 512 (e .bytes) ++ drop 512 (gd .home q) in
-      let i = inv-front at₀ k₀ ledger₀ q e (gd .kept .disk) (r .runs .alive) f in
+      let i = invariant-front at₀ k₀ ledger₀ q e (gd .kept .disk) (r .runs .alive) f in
       let ln : length (part (e .bytes) 0 512) ≡ 512 = ap length (part-front-is (e .bytes)) ∙ length-take 512 (e .bytes) ∙ omega (arith, r .long) in
       half-good q e r (setPage q x (gd .home)) (withFirstHalf (w .home) q (part (e .bytes) 0 512)) (Second q) t (i .disk) (i .lives)
       (length-splice (w .home) (q * 1024) 512 (part (e .bytes) 0 512) (omega (arith, r .fits)) ln)
@@ -148,7 +148,7 @@ module _ (z : Sizes) (range : Ranged z) (w : World) (b : Book) (gd : Good z w b)
       let r : Ready q e = ready q e f so in
       let x : List ℕ = take 512 (gd .home q) ++ drop 512 (e .bytes) in
       let sg : Stage (gd .home) (gd .pages) (second q) = subst (λ (y : Cleaning). Stage (gd .home) (gd .pages) (stageOf y)) c (r .runs .alive .stage) in
-      let i = inv-back at₀ k₀ ledger₀ q e (gd .kept .disk) (r .runs .alive) f sg in
+      let i = invariant-back at₀ k₀ ledger₀ q e (gd .kept .disk) (r .runs .alive) f sg in
       let ln : length (part (e .bytes) 512 512) ≡ 512 = ap length (part-back-is (e .bytes) (r .long)) ∙ length-drop 512 (e .bytes) ∙ omega (arith, r .long) in
       half-good q e r (setPage q x (gd .home)) (withSecondHalf (w .home) q (part (e .bytes) 512 512)) (Third q) t (i .disk) (i .lives)
       (length-splice (w .home) (q * 1024 + 512) 512 (part (e .bytes) 512 512) (omega (arith, r .fits)) ln)

@@ -46,7 +46,7 @@ use Rattle.promises.specs.Claim.{entered, cutAt, both, Run, formatted, c
 use Rattle.promises.proofs.History.Machine.{lastKeep}
 use Rattle.promises.proofs.History.Views.{viewFrom}
 use Rattle.promises.proofs.History.Tally.{tally}
-use Rattle.promises.proofs.History.Recovered.{inv-start}
+use Rattle.promises.proofs.History.Recovered.{invariant-start}
 use Rattle.promises.proofs.History.Whole.{Kept, tally-none}
 use Rattle.promises.proofs.Soundness.{all-zero-unsound}
 use Rattle.promises.proofs.Slots.{size-slots, blank-slots}
@@ -184,7 +184,7 @@ at-start : (z : Sizes) (range : Ranged z) (log home frames staging : List ℕ) �
     → Good z (record { state = allZeroState; log = replicate (length log) 0; home = home; frames = frames; staging = staging }) (blank home)
 unfolding lastKeep tally viewFrom
 at-start z range log home frames staging l h =
-    let i = inv-start (paged (z .pages) home) (paged-long (z .pages) home h) in
+    let i = invariant-start (paged (z .pages) home) (paged-long (z .pages) home h) in
     subst (λ (n : ℕ). Good z (record { state = allZeroState; log = replicate n 0; home = home; frames = frames; staging = staging }) (blank home)) (sym l)
     (record {
       history = [];

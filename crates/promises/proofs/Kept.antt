@@ -89,9 +89,9 @@ unfolding Legal
 fits-legal P [] f = tt
 fits-legal P (u ∷ us) f = (f .0 .3, fits-legal P us (f .1))
 
-pub fits-ups : (P : ℕ) (us : List Update) → Fits P us → Ups P us
-fits-ups P [] f = tt
-fits-ups P (u ∷ us) f = (f .0 .0, fits-ups P us (f .1))
+pub fits-updates : (P : ℕ) (us : List Update) → Fits P us → Ups P us
+fits-updates P [] f = tt
+fits-updates P (u ∷ us) f = (f .0 .0, fits-updates P us (f .1))
 
 pub fits-more : (P : ℕ) (us : List Update) (u : Update) → Fits P us → Fit P u → Fits P (us ++ (u ∷ []))
 fits-more P [] u f h = (h, tt)
@@ -107,21 +107,21 @@ all-more P [] g f h l = ((h, l), tt)
 all-more P (x ∷ q) g f h l = (f .0, all-more P q g (f .1) h l)
 
 -- ---- a page's home bytes count only where the page is
-pub touch-cong : (P s : ℕ) (home home′ : ℕ → List ℕ) (u : Update) (es : List DirtyPage) → ((p : ℕ) → p < P → home p ≡ home′ p) → u .page < P → apply s home u es ≡ apply s home′ u es
+pub apply-cong : (P s : ℕ) (home home′ : ℕ → List ℕ) (u : Update) (es : List DirtyPage) → ((p : ℕ) → p < P → home p ≡ home′ p) → u .page < P → apply s home u es ≡ apply s home′ u es
 unfolding apply
-touch-cong P s home home′ u [] h l = rw (h (u .page) l)
-touch-cong P s home home′ u (e ∷ es) h l = by-eq (u .page) (e .page) (λ q. simp (eq-eqb _ _ q)) (λ n. simp (ne-eqb _ _ n) (ap (λ (x : List DirtyPage). e ∷ x) (touch-cong P s home home′ u es h l)))
+apply-cong P s home home′ u [] h l = rw (h (u .page) l)
+apply-cong P s home home′ u (e ∷ es) h l = by-eq (u .page) (e .page) (λ q. simp (eq-eqb _ _ q)) (λ n. simp (ne-eqb _ _ n) (ap (λ (x : List DirtyPage). e ∷ x) (apply-cong P s home home′ u es h l)))
 
-pub touch-all-cong : (P s : ℕ) (home home′ : ℕ → List ℕ) (us : List Update) (es : List DirtyPage) → ((p : ℕ) → p < P → home p ≡ home′ p) → Ups P us → applyAll s home us es ≡ applyAll s home′ us es
+pub apply-all-cong : (P s : ℕ) (home home′ : ℕ → List ℕ) (us : List Update) (es : List DirtyPage) → ((p : ℕ) → p < P → home p ≡ home′ p) → Ups P us → applyAll s home us es ≡ applyAll s home′ us es
 unfolding applyAll
-touch-all-cong P s home home′ [] es h l = refl
-touch-all-cong P s home home′ (u ∷ us) es h l = rw (touch-cong P s home home′ u es h (l .0)) (touch-all-cong P s home home′ us (apply s home′ u es) h (l .1))
+apply-all-cong P s home home′ [] es h l = refl
+apply-all-cong P s home home′ (u ∷ us) es h l = rw (apply-cong P s home home′ u es h (l .0)) (apply-all-cong P s home home′ us (apply s home′ u es) h (l .1))
 
 -- a page that is found is a page
-pub look-page : (P q : ℕ) (e : DirtyPage) (es : List DirtyPage) → lookUp q es ≡ at e → Pages P es → q < P
+pub lookUp-page : (P q : ℕ) (e : DirtyPage) (es : List DirtyPage) → lookUp q es ≡ at e → Pages P es → q < P
 unfolding lookUp
-look-page P q e [] f p = let x : _≡_ {A = ℕ} 0 1 = cc in absurd (omega arith)
-look-page P q e (y ∷ es) f p = by-eq q (y .page) (λ x. rw x (p .0)) (λ n. look-page P q e es (simp (ne-eqb _ _ n) at f) (p .1))
+lookUp-page P q e [] f p = let x : _≡_ {A = ℕ} 0 1 = cc in absurd (omega arith)
+lookUp-page P q e (y ∷ es) f p = by-eq q (y .page) (λ x. rw x (p .0)) (λ n. lookUp-page P q e es (simp (ne-eqb _ _ n) at f) (p .1))
 
 -- ---- the same runs, said of another list of dirty pages that finds the same
 module _ (z : full.Sizes) (home : ℕ → List ℕ) (b : ledger.Book) (history : List LogBlock) (n : ℕ) (l l′ : Live) where

@@ -41,7 +41,7 @@ use Rattle.area.proofs.Parts.{length-splice}
 use Rattle.block.proofs.Facts.{NumberFacts}
 use Rattle.promises.proofs.Slots.{KindFits, slots-store, length-written}
 use Rattle.promises.proofs.SoundFacts.{and-left, and-right, Facts, facts}
-use Rattle.promises.proofs.Kept.{sizesOf, bookOf, liveOf, stageOf, Fit, Fits, FitsAll, Lives, Good, fits-ups, fits-at, touch-all-cong, Matches, lives-from, cleaning-after}
+use Rattle.promises.proofs.Kept.{sizesOf, bookOf, liveOf, stageOf, Fit, Fits, FitsAll, Lives, Good, fits-updates, fits-at, apply-all-cong, Matches, lives-from, cleaning-after}
 use Rattle.promises.proofs.Replies.{log-refused-false, no-accept}
 use Rattle.promises.proofs.QuietCalls.{length-queue}
 
@@ -248,7 +248,7 @@ module _ (z : Sizes) (range : Ranged z) (w : World) (b : Book) (gd : Good z w b)
       ∙ ap (λ (n : ℕ). stored n (w .log) (s .next) x) (l .slotCount) in
       let se : slotsOf (z .slots) (z .pages) (st .log′) ≡ store (z .slots) (s .next) x slots₀ = ap (slotsOf (z .slots) (z .pages)) le ∙ stored-slots z range (w .log) (gd .logLong) (s .next) x fk cm in
       let tc : applyAll (groupStart s) (gd .home) g (dirtyOf s (w .frames)) ≡ applyAll (groupStart s) (pageAt (w .home)) g (dirtyOf s (w .frames)) =
-      touch-all-cong (z .pages) (groupStart s) (gd .home) (pageAt (w .home)) g (dirtyOf s (w .frames)) (gd .homeIs) (fits-ups (z .pages) g (r .fits)) in
+      apply-all-cong (z .pages) (groupStart s) (gd .home) (pageAt (w .home)) g (dirtyOf s (w .frames)) (gd .homeIs) (fits-updates (z .pages) g (r .fits)) in
       rw (st .after) (record {
         history = gd .history ++ (x ∷ []);
         home = gd .home;

@@ -28,14 +28,14 @@ use Rattle.promises.proofs.History.Sees.{by-eq}
 use Rattle.promises.proofs.History.WalkStart.{BeginsAt, commits, isCommit}
 use Rattle.promises.proofs.History.Invariant.{view, Keep, empty, from}
 use Rattle.promises.proofs.History.Ring.{Holds, noBlock}
-use Rattle.promises.proofs.History.Accepted.{Ups, Views, Formed, Right, after, step-ups, formed-app}
+use Rattle.promises.proofs.History.Accepted.{Ups, Views, Formed, Right, after, step-updates, formed-append}
 use Rattle.promises.proofs.History.Recovered.{rest}
 use Rattle.promises.proofs.History.Whole.{Kept, Runs}
-use Rattle.promises.proofs.History.Reopened.{begins-le, last-keepFrom, newest-is, reads-is, okay, fitting, reports, running}
+use Rattle.promises.proofs.History.Reopened.{begins-le, last-keepFrom, newest-is, gathered-is, okay, fitting, reports, running}
 use Rattle.promises.specs.Book.{Book, gone}
 use Rattle.promises.specs.Events.{Sizes, World, Reply, refuses, settles, shows, accepts, openAnswered, readAnswered, Opening, Reading}
 use Rattle.promises.proofs.Ranges.{Ranged}
-use Rattle.promises.proofs.Kept.{sizesOf, bookOf, Lives, Good, touch-all-cong, Matches, lives-from}
+use Rattle.promises.proofs.Kept.{sizesOf, bookOf, Lives, Good, apply-all-cong, Matches, lives-from}
 use Rattle.promises.proofs.QuietCalls.{answer-reading}
 use Rattle.promises.proofs.Slots.{size-slots}
 
@@ -62,13 +62,13 @@ walk-ok N F next home j (b ∷ bs) v e =
 framed-cong : (P F : ℕ) (home home′ : ℕ → List ℕ) (k : Kind) (v : Walk) → ((p : ℕ) → p < P → home p ≡ home′ p) → Ups P (v .group) → framed F home k v ≡ framed F home′ k v
 unfolding framed
 framed-cong P F home home′ (update i u) v h l = refl
-framed-cong P F home home′ (commit n) v h l = ap (λ (x : List DirtyPage). leb (length x) F) (touch-all-cong P (v .start) home home′ (v .group) (v .dirtyPages) h l)
+framed-cong P F home home′ (commit n) v h l = ap (λ (x : List DirtyPage). leb (length x) F) (apply-all-cong P (v .start) home home′ (v .group) (v .dirtyPages) h l)
 framed-cong P F home home′ (clean q) v h l = refl
 
 block-cong : (P j : ℕ) (home home′ : ℕ → List ℕ) (k : Kind) (v : Walk) → ((p : ℕ) → p < P → home p ≡ home′ p) → Ups P (v .group) → walkBlock home j k v ≡ walkBlock home′ j k v
 unfolding walkBlock
 block-cong P j home home′ (update i u) v h l = refl
-block-cong P j home home′ (commit n) v h l = ap (λ (x : List DirtyPage). record { group = []; start = 0; ticket = v .ticket + 1; dirtyPages = x }) (touch-all-cong P (v .start) home home′ (v .group) (v .dirtyPages) h l)
+block-cong P j home home′ (commit n) v h l = ap (λ (x : List DirtyPage). record { group = []; start = 0; ticket = v .ticket + 1; dirtyPages = x }) (apply-all-cong P (v .start) home home′ (v .group) (v .dirtyPages) h l)
 block-cong P j home home′ (clean q) v h l = refl
 
 walk-cong : (N F P next j m : ℕ) (home home′ : ℕ → List ℕ) (bs : List LogBlock) (v : Walk) (ts : Views) → ((p : ℕ) → p < P → home p ≡ home′ p) → Formed F P j m ts bs → Ups P (v .group)
@@ -78,7 +78,7 @@ walk-cong N F P next j m home home′ [] v ts h f l = refl
 walk-cong N F P next j m home home′ (b ∷ bs) v ts h f l =
     let e : framed F home (b .kind) v ≡ framed F home′ (b .kind) v = framed-cong P F home home′ (b .kind) v h l in
     let d : walkBlock home j (b .kind) v ≡ walkBlock home′ j (b .kind) v = block-cong P j home home′ (b .kind) v h l in
-    let ih = walk-cong N F P next (suc j) (m + isCommit (b .kind)) home home′ bs (walkBlock home j (b .kind) v) (after j (b .kind) ts) h (f .1) (step-ups F P j m (b .ticket) home (b .kind) v ts (f .0) l) in
+    let ih = walk-cong N F P next (suc j) (m + isCommit (b .kind)) home home′ bs (walkBlock home j (b .kind) v) (after j (b .kind) ts) h (f .1) (step-updates F P j m (b .ticket) home (b .kind) v ts (f .0) l) in
     let ih′ : walkFrom N F home next (suc j) bs (walkBlock home j (b .kind) v) ≡ walkFrom N F home′ next (suc j) bs (walkBlock home′ j (b .kind) v) = ih ∙ ap (walkFrom N F home′ next (suc j) bs) d in
     rw (e, ih′) refl
 
@@ -134,7 +134,7 @@ module _ (z : Sizes) (range : Ranged z) (w : World) (b : Book) (gd : Good z w b)
           ∙ walk-cong (z .slots) (z .frames) (z .pages) nx kf (0 + commits (g .pre)) (pageAt (w .home)) (gd .home) bs (startWith (believed bs)) (view (g .pre)) (λ p h. sym (gd .homeIs p h))
           (subst (Formed (z .frames) (z .pages) kf (0 + commits (g .pre)) (view (g .pre))) (sym (rest (gd .history) (b .m) kf g))
           (subst (λ (n : ℕ). Formed (z .frames) (z .pages) n (0 + commits (g .pre)) (view (g .pre)) (g .block ∷ g .post)) (g .place)
-          (formed-app (z .frames) (z .pages) 1 0 (λ p. noView) (g .pre) (g .block ∷ g .post) (subst (λ (x : List LogBlock). Formed (z .frames) (z .pages) 1 0 (λ p. noView) x) (g .split) (gd .kept .formed))))) tt
+          (formed-append (z .frames) (z .pages) 1 0 (λ p. noView) (g .pre) (g .block ∷ g .post) (subst (λ (x : List LogBlock). Formed (z .frames) (z .pages) 1 0 (λ p. noView) x) (g .split) (gd .kept .formed))))) tt
 
   ends₀ : ending (z .slots) nx vw ≡ stands nx vw
   ends₀ = simp (le-leb _ _ (fitting (sizesOf z) slots₀ (gd .home) ledger₀ (gd .history) big (gd .kept)))
@@ -142,7 +142,7 @@ module _ (z : Sizes) (range : Ranged z) (w : World) (b : Book) (gd : Good z w b)
   finding₀ : finding (z .slots) (z .pages) (z .frames) (w .log) (w .home) ≡ stands nx vw
   unfolding finding
   finding₀ =
-      ap (walkGathered (z .slots) (z .frames) (pageAt (w .home)) slots₀) (reads-is (sizesOf z) slots₀ (gd .home) ledger₀ (gd .history) big (gd .kept))
+      ap (walkGathered (z .slots) (z .frames) (pageAt (w .home)) slots₀) (gathered-is (sizesOf z) slots₀ (gd .home) ledger₀ (gd .history) big (gd .kept))
       ∙ ap (λ (n : ℕ). walkFrom (z .slots) (z .frames) (pageAt (w .home)) (n + 1) (keepOf (z .slots) slots₀) bs (startWith (believed bs))) newest₀
       ∙ walk₀
       ∙ walk-ok (z .slots) (z .frames) nx (gd .home) kf bs (startWith (believed bs)) (okay (sizesOf z) slots₀ (gd .home) ledger₀ (gd .history) big (gd .kept))

@@ -30,13 +30,13 @@ use Rattle.promises.proofs.History.Machine.{Live}
 use Rattle.promises.proofs.History.Sizes.{enqueue}
 use Rattle.promises.proofs.History.Sees.{by-eq}
 use Rattle.promises.proofs.History.Recovered.{alive-end, shown-right}
-use Rattle.promises.proofs.History.Whole.{Runs, places-app}
+use Rattle.promises.proofs.History.Whole.{Runs, places-append}
 use Rattle.promises.specs.Book.{Book, begun, described, ended, ticketGiven}
 use Rattle.promises.specs.Events.{Sizes, World, withState, Call, begin, describe, ending, reading, settling, Reply, refuses, done, gives, shows, says, accepts, endAnswered, standingAnswered, readAnswered, Beginning, Describing, Ending, Reading, Settling}
 use Rattle.promises.specs.Claim.{entered, Right}
 use Rattle.promises.proofs.Replies.{refused-false, end-refused-false, standing-refused-false, no-accept}
 use Rattle.promises.proofs.SoundFacts.{and-left, and-right, Facts, facts}
-use Rattle.promises.proofs.Kept.{sizesOf, bookOf, liveOf, Fit, Fits, FitsAll, Lives, Good, fits-legal, fits-ups, fits-more, all-more, Matches, lives-from}
+use Rattle.promises.proofs.Kept.{sizesOf, bookOf, liveOf, Fit, Fits, FitsAll, Lives, Good, fits-legal, fits-updates, fits-more, all-more, Matches, lives-from}
 
 -- ---- Begin
 module _ (z : Sizes) (w : World) (b : Book) (g : Good z w b) where
@@ -129,7 +129,7 @@ module _ (z : Sizes) (w : World) (b : Book) (g : Good z w b) where
       let k : Live = liveOf s (w .frames) (w .staging) in
       let al = alive-end (g .history) (g .home) k (bookOf (g .pages) b) (b .list) (omega arith, fits-legal (z .pages) (b .list) (l .listFits)) (l .runs .alive) in
       let r : Runs (sizesOf z) (g .home) (bookOf (g .pages) (ended b)) (g .history) (s .next) (enqueue k (b .list)) =
-      record { next = l .runs .next; alive = al; pages = l .runs .pages; places = places-app (z .pages) (queueOf s (w .staging)) (b .list) (l .runs .places) (fits-ups (z .pages) (b .list) (l .listFits)) } in
+      record { next = l .runs .next; alive = al; pages = l .runs .pages; places = places-append (z .pages) (queueOf s (w .staging)) (b .list) (l .runs .places) (fits-updates (z .pages) (b .list) (l .listFits)) } in
       rw (st .promise .answerIs e) (record {
         history = g .history;
         home = g .home;

@@ -17,7 +17,7 @@ use Rattle.promises.specs.Sums.{firstGroups, halfStarts, openOnes, small
 use Rattle.promises.specs.Sound.{dirtyNumbers, member, distinct, allBelow, sizesLegal, ofOldest, names, sizesSound, sound}
 use Rattle.promises.proofs.Soundness.{Sound, sound-of}
 use Rattle.promises.proofs.Changes.{held-is}
-use Rattle.promises.proofs.Table.{look-none}
+use Rattle.promises.proofs.Table.{lookUp-none}
 use Rattle.promises.proofs.History.WalkStart.{Distinct}
 use Rattle.promises.proofs.History.Tally.{Pages}
 
@@ -40,10 +40,10 @@ length-dirty frames f (d ∷ ds) = go (eqb (d .first) 0) (length-dirty frames (s
     go true e = e
     go false e = ap suc e
 
-pub oldest-dirty : (n : ℕ) (frames : List ℕ) (f : ℕ) (ds : List Dirty) → keepFromOf n (dirtyFrom frames f ds) ≡ smallest n (firstGroups ds)
+pub keepFrom-dirty : (n : ℕ) (frames : List ℕ) (f : ℕ) (ds : List Dirty) → keepFromOf n (dirtyFrom frames f ds) ≡ smallest n (firstGroups ds)
 unfolding dirtyFrom firstGroups keepFromOf
-oldest-dirty n frames f [] = refl
-oldest-dirty n frames f (d ∷ ds) = go (eqb (d .first) 0) (oldest-dirty n frames (suc f) ds)
+keepFrom-dirty n frames f [] = refl
+keepFrom-dirty n frames f (d ∷ ds) = go (eqb (d .first) 0) (keepFrom-dirty n frames (suc f) ds)
   where
     go : (b : Bool) → keepFromOf n (dirtyFrom frames (suc f) ds) ≡ smallest n (firstGroups ds)
         → keepFromOf n (unless b (record { page = d .page; first = d .first; bytes = pageAt frames f }) (dirtyFrom frames (suc f) ds)) ≡ smallest n (unless b (d .first) (firstGroups ds))
@@ -68,7 +68,7 @@ distinct-dirty frames f (d ∷ ds) h = go (distinct-dirty frames (suc f) ds) (eq
     go : (distinct (dirtyNumbers ds) ≡ true → Distinct (dirtyFrom frames (suc f) ds)) → (b : Bool) → distinct (unless b (d .page) (dirtyNumbers ds)) ≡ true
         → Distinct (unless b (record { page = d .page; first = d .first; bytes = pageAt frames f }) (dirtyFrom frames (suc f) ds))
     go ih true h = ih h
-    go ih false h = (look-none (d .page) frames (suc f) ds (not-true _ (and-left (distinct (dirtyNumbers ds)) h)), ih (and-right (not (member (d .page) (dirtyNumbers ds))) h))
+    go ih false h = (lookUp-none (d .page) frames (suc f) ds (not-true _ (and-left (distinct (dirtyNumbers ds)) h)), ih (and-right (not (member (d .page) (dirtyNumbers ds))) h))
 
 -- ---- the facts
 pub record Facts (s : State) (frames : List ℕ) : Type 0 where
@@ -87,7 +87,7 @@ pub record Facts (s : State) (frames : List ℕ) : Type 0 where
 pub facts : (s : State) (frames : List ℕ) → sound s ≡ true → Facts s frames
 facts s frames h =
     let f : Sound s = sound-of s h in
-    let hs : heldSlots s ≡ s .next - keepFromOf (s .next - s .stored) (dirtyOf s frames) = ap (λ (n : ℕ). s .next - n) (held-is s ∙ sym (oldest-dirty (s .next - s .stored) frames 0 (s .dirty))) in
+    let hs : heldSlots s ≡ s .next - keepFromOf (s .next - s .stored) (dirtyOf s frames) = ap (λ (n : ℕ). s .next - n) (held-is s ∙ sym (keepFrom-dirty (s .next - s .stored) frames 0 (s .dirty))) in
     let ld : length (dirtyOf s frames) ≡ dirtyCount s = length-dirty frames 0 (s .dirty) in
     record {
       distinct = distinct-dirty frames 0 (s .dirty) (f .distinctPages);

@@ -53,13 +53,13 @@ not-false true e = let z : _≡_ {A = ℕ} 0 1 = cc in absurd (omega arith)
 not-false false e = refl
 
 -- ONE ENTRY CHANGES: entry i becomes d and frame f + i other bytes
-pub look-set : (p : ℕ) (frames frames′ : List ℕ) (f i : ℕ) (ds : List Dirty) (d : Dirty) → i < length ds
+pub lookUp-set : (p : ℕ) (frames frames′ : List ℕ) (f i : ℕ) (ds : List Dirty) (d : Dirty) → i < length ds
     → ((g : ℕ) → (g ≡ f + i → ⊥) → pageAt frames′ g ≡ pageAt frames g)
     → (eqb (d .first) 0 ≡ false → member (d .page) (dirtyNumbers (set ds i free)) ≡ false)
     → lookUp p (dirtyFrom frames′ f (set ds i d)) ≡ entryOr p d (pageAt frames′ (f + i)) (lookUp p (dirtyFrom frames f (set ds i free)))
 unfolding dirtyFrom dirtyNumbers lookUp
-look-set p frames frames′ f i [] d h a n = absurd (omega arith)
-look-set p frames frames′ f zero (x ∷ ds) d h a n =
+lookUp-set p frames frames′ f i [] d h a n = absurd (omega arith)
+lookUp-set p frames frames′ f zero (x ∷ ds) d h a n =
     let e : dirtyFrom frames′ (suc f) ds ≡ dirtyFrom frames (suc f) ds = dirty-cong frames frames′ (suc f) ds (λ g l. a g (λ q. omega arith)) in
     let z : f + 0 ≡ f = omega arith in
     rw (e, z) (go (eqb (d .first) 0) (dirtyFrom frames (suc f) ds))
@@ -68,11 +68,11 @@ look-set p frames frames′ f zero (x ∷ ds) d h a n =
         ≡ cond (not b && eqb p (d .page)) (at (record { page = d .page; first = d .first; bytes = pageAt frames′ f })) (lookUp p es)
     go true es = refl
     go false es = refl
-look-set p frames frames′ f (suc i) (x ∷ ds) d h a n =
+lookUp-set p frames frames′ f (suc i) (x ∷ ds) d h a n =
     let k : suc f + i ≡ f + suc i = omega arith in
     let ih : (eqb (d .first) 0 ≡ false → member (d .page) (dirtyNumbers (set ds i free)) ≡ false)
     → lookUp p (dirtyFrom frames′ (suc f) (set ds i d)) ≡ entryOr p d (pageAt frames′ (suc f + i)) (lookUp p (dirtyFrom frames (suc f) (set ds i free))) =
-    λ m. look-set p frames frames′ (suc f) i ds d (omega arith) (λ g q. a g (λ r. q (omega arith))) m in
+    λ m. lookUp-set p frames frames′ (suc f) i ds d (omega arith) (λ g q. a g (λ r. q (omega arith))) m in
     let hd : pageAt frames′ f ≡ pageAt frames f = a f (λ q. omega arith) in
     rw hd (go (eqb (x .first) 0) n (λ m. ih m ∙ ap (λ (j : ℕ). entryOr p d (pageAt frames′ j) (lookUp p (dirtyFrom frames (suc f) (set ds i free)))) k))
   where
@@ -91,24 +91,24 @@ look-set p frames frames′ f (suc i) (x ∷ ds) d h a n =
         ne-eqb p (x .page) (λ r. eqb-false (d .page) (x .page) z (sym q ∙ r)))
 
 -- ---- the three changes
-pub touch-new : (s : ℕ) (home : ℕ → List ℕ) (u : Update) (es : List DirtyPage) (p : ℕ) → lookUp (u .page) es ≡ absent
+pub apply-new : (s : ℕ) (home : ℕ → List ℕ) (u : Update) (es : List DirtyPage) (p : ℕ) → lookUp (u .page) es ≡ absent
     → lookUp p (apply s home u es) ≡ cond (eqb p (u .page)) (at (record { page = u .page; first = s; bytes = put u (home (u .page)) })) (lookUp p es)
 unfolding apply lookUp
-touch-new s home u [] p e = refl
-touch-new s home u (x ∷ es) p e = by-test (eqb (u .page) (x .page))
+apply-new s home u [] p e = refl
+apply-new s home u (x ∷ es) p e = by-test (eqb (u .page) (x .page))
     (λ t. let c : at x ≡ absent = rw t at e in let z : _≡_ {A = ℕ} 0 1 = cc in absurd (omega arith))
-    (λ t. rw t (ap (λ (r : Found). cond (eqb p (x .page)) (at x) r) (touch-new s home u es p (rw t at e))
+    (λ t. rw t (ap (λ (r : Found). cond (eqb p (x .page)) (at x) r) (apply-new s home u es p (rw t at e))
     ∙ swap p (eqb p (x .page)) (eqb p (u .page)) _ _ _ (λ c. ne-eqb p (x .page) (λ q. eqb-false (u .page) (x .page) t (sym (eqb-true p (u .page) c) ∙ q)))))
 
-pub touch-old : (s : ℕ) (home : ℕ → List ℕ) (u : Update) (es : List DirtyPage) (p : ℕ) (y : DirtyPage) → lookUp (u .page) es ≡ at y
+pub apply-old : (s : ℕ) (home : ℕ → List ℕ) (u : Update) (es : List DirtyPage) (p : ℕ) (y : DirtyPage) → lookUp (u .page) es ≡ at y
     → lookUp p (apply s home u es) ≡ cond (eqb p (u .page)) (at (record { page = y .page; first = y .first; bytes = put u (y .bytes) })) (lookUp p es)
 unfolding apply lookUp
-touch-old s home u [] p y e = let z : _≡_ {A = ℕ} 0 1 = cc in absurd (omega arith)
-touch-old s home u (x ∷ es) p y e = by-test (eqb (u .page) (x .page))
+apply-old s home u [] p y e = let z : _≡_ {A = ℕ} 0 1 = cc in absurd (omega arith)
+apply-old s home u (x ∷ es) p y e = by-test (eqb (u .page) (x .page))
     (λ t. let c : x ≡ y = same-at (rw t at e) in
     let m : eqb p (u .page) ≡ eqb p (x .page) = ap (eqb p) (eqb-true (u .page) (x .page) t) in
     rw t (subst (λ (b : Bool). cond b (at (more x)) (lookUp p es) ≡ cond (eqb p (u .page)) (at (more y)) (cond b (at x) (lookUp p es))) m (fin (eqb p (u .page)) (ap (λ (v : DirtyPage). at (more v)) c))))
-    (λ t. rw t (ap (λ (r : Found). cond (eqb p (x .page)) (at x) r) (touch-old s home u es p y (rw t at e))
+    (λ t. rw t (ap (λ (r : Found). cond (eqb p (x .page)) (at x) r) (apply-old s home u es p y (rw t at e))
     ∙ swap p (eqb p (x .page)) (eqb p (u .page)) _ _ _ (λ c. ne-eqb p (x .page) (λ q. eqb-false (u .page) (x .page) t (sym (eqb-true p (u .page) c) ∙ q)))))
   where
     more : DirtyPage → DirtyPage
@@ -122,33 +122,33 @@ touch-old s home u (x ∷ es) p y e = by-test (eqb (u .page) (x .page))
     same-at e = cc
 
 -- ---- a clean block frees its page's frame
-pub look-without : (p q : ℕ) (es : List DirtyPage) → lookUp p (without q es) ≡ cond (eqb p q) absent (lookUp p es)
+pub lookUp-without : (p q : ℕ) (es : List DirtyPage) → lookUp p (without q es) ≡ cond (eqb p q) absent (lookUp p es)
 unfolding lookUp without
-look-without p q [] = by-test (eqb p q) (λ t. rw t refl) (λ t. rw t refl)
-look-without p q (x ∷ es) = by-test (eqb q (x .page))
-    (λ t. rw t (look-without p q es ∙ by-test (eqb p q)
+lookUp-without p q [] = by-test (eqb p q) (λ t. rw t refl) (λ t. rw t refl)
+lookUp-without p q (x ∷ es) = by-test (eqb q (x .page))
+    (λ t. rw t (lookUp-without p q es ∙ by-test (eqb p q)
     (λ r. rw r refl)
     (λ r. let n : eqb p (x .page) ≡ false = ne-eqb p (x .page) (λ e. eqb-false p q r (e ∙ sym (eqb-true q (x .page) t))) in rw (r, n) refl)))
-    (λ t. rw t (ap (λ (y : Found). cond (eqb p (x .page)) (at x) y) (look-without p q es)
+    (λ t. rw t (ap (λ (y : Found). cond (eqb p (x .page)) (at x) y) (lookUp-without p q es)
     ∙ swap p (eqb p (x .page)) (eqb p q) _ _ _ (λ c. ne-eqb p (x .page) (λ e. eqb-false q (x .page) t (sym (eqb-true p q c) ∙ e)))))
 
-pub look-none : (p : ℕ) (frames : List ℕ) (f : ℕ) (ds : List Dirty) → member p (dirtyNumbers ds) ≡ false → lookUp p (dirtyFrom frames f ds) ≡ absent
+pub lookUp-none : (p : ℕ) (frames : List ℕ) (f : ℕ) (ds : List Dirty) → member p (dirtyNumbers ds) ≡ false → lookUp p (dirtyFrom frames f ds) ≡ absent
 unfolding dirtyFrom dirtyNumbers lookUp
-look-none p frames f [] h = refl
-look-none p frames f (d ∷ ds) h = go (look-none p frames (suc f) ds) (eqb (d .first) 0) h
+lookUp-none p frames f [] h = refl
+lookUp-none p frames f (d ∷ ds) h = go (lookUp-none p frames (suc f) ds) (eqb (d .first) 0) h
   where
     go : (member p (dirtyNumbers ds) ≡ false → lookUp p (dirtyFrom frames (suc f) ds) ≡ absent) → (b : Bool) → member p (unless b (d .page) (dirtyNumbers ds)) ≡ false
         → lookUp p (unless b (record { page = d .page; first = d .first; bytes = pageAt frames f }) (dirtyFrom frames (suc f) ds)) ≡ absent
     go ih true h = ih h
     go ih false h = let e = or-false (eqb p (d .page)) (member p (dirtyNumbers ds)) h in rw (e .0) (ih (e .1))
 
-pub look-freed : (p : ℕ) (frames : List ℕ) (f i : ℕ) (ds : List Dirty) → i < length ds → eqb (getD ds i free .first) 0 ≡ false → member (getD ds i free .page) (dirtyNumbers (set ds i free)) ≡ false
+pub lookUp-freed : (p : ℕ) (frames : List ℕ) (f i : ℕ) (ds : List Dirty) → i < length ds → eqb (getD ds i free .first) 0 ≡ false → member (getD ds i free .page) (dirtyNumbers (set ds i free)) ≡ false
     → lookUp p (dirtyFrom frames f (set ds i free)) ≡ lookUp p (without (getD ds i free .page) (dirtyFrom frames f ds))
-look-freed p frames f i ds h z n =
+lookUp-freed p frames f i ds h z n =
     let x : Dirty = getD ds i free in
     let l : lookUp p (dirtyFrom frames f ds) ≡ entryOr p x (pageAt frames (f + i)) (lookUp p (dirtyFrom frames f (set ds i free))) =
-    ap (λ (y : List Dirty). lookUp p (dirtyFrom frames f y)) (sym (set-getD ds i free)) ∙ look-set p frames frames f i ds x h (λ g q. refl) (λ e. n) in
-    sym (look-without p (x .page) (dirtyFrom frames f ds)
+    ap (λ (y : List Dirty). lookUp p (dirtyFrom frames f y)) (sym (set-getD ds i free)) ∙ lookUp-set p frames frames f i ds x h (λ g q. refl) (λ e. n) in
+    sym (lookUp-without p (x .page) (dirtyFrom frames f ds)
     ∙ by-test (eqb p (x .page))
-    (λ t. rw t (sym (ap (λ (y : ℕ). lookUp y (dirtyFrom frames f (set ds i free))) (eqb-true p (x .page) t) ∙ look-none (x .page) frames f (set ds i free) n)))
+    (λ t. rw t (sym (ap (λ (y : ℕ). lookUp y (dirtyFrom frames f (set ds i free))) (eqb-true p (x .page) t) ∙ lookUp-none (x .page) frames f (set ds i free) n)))
     (λ t. rw t (l ∙ rw (z, t) refl)))

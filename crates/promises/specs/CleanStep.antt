@@ -86,31 +86,28 @@ pub record Store : Type 0 where
   pub contents : Contents
   pub dirtyPages : List DirtyPage
 
-unfoldable pub cleanStore : Cleaning → State → List ℕ → List ℕ → List DirtyPage → Contents → ℕ → DirtyPage → Store
-cleanStore Idle state log home dirtyPages contents page entry = record {
-  log = log;
-  home = withFirstHalf home page (firstHalf (entry .bytes));
-  contents = cleaningAt contents (Second page);
-  dirtyPages = dirtyPages;
-}
-cleanStore (First named) state log home dirtyPages contents page entry = record {
-  log = log;
-  home = withFirstHalf home page (firstHalf (entry .bytes));
-  contents = cleaningAt contents (Second page);
-  dirtyPages = dirtyPages;
-}
-cleanStore (Second named) state log home dirtyPages contents page entry = record {
-  log = log;
-  home = withSecondHalf home page (secondHalf (entry .bytes));
-  contents = cleaningAt contents (Third page);
-  dirtyPages = dirtyPages;
-}
-cleanStore (Third named) state log home dirtyPages contents page entry = record {
-  log = stored (state .slots) log (state .next) (cleanBlock state page dirtyPages);
+abbrev pub firstStore : List ℕ → List ℕ → List DirtyPage → Contents → ℕ → DirtyPage → Store
+firstStore log home dirty contents page entry =
+    record { log = log; home = withFirstHalf home page (firstHalf (entry .bytes)); contents = cleaningAt contents (Second page); dirtyPages = dirty }
+
+abbrev pub secondStore : List ℕ → List ℕ → List DirtyPage → Contents → ℕ → DirtyPage → Store
+secondStore log home dirty contents page entry =
+    record { log = log; home = withSecondHalf home page (secondHalf (entry .bytes)); contents = cleaningAt contents (Third page); dirtyPages = dirty }
+
+abbrev pub thirdStore : State → List ℕ → List ℕ → List DirtyPage → Contents → ℕ → Store
+thirdStore state log home dirty contents page = record {
+  log = stored (state .slots) log (state .next) (cleanBlock state page dirty);
   home = home;
   contents = cleanStored contents;
-  dirtyPages = without page dirtyPages;
+  dirtyPages = without page dirty;
 }
+
+-- an idle cleaning makes the first store of the page that it takes
+unfoldable pub cleanStore : Cleaning → State → List ℕ → List ℕ → List DirtyPage → Contents → ℕ → DirtyPage → Store
+cleanStore Idle state log home dirty contents page entry = firstStore log home dirty contents page entry
+cleanStore (First named) state log home dirty contents page entry = firstStore log home dirty contents page entry
+cleanStore (Second named) state log home dirty contents page entry = secondStore log home dirty contents page entry
+cleanStore (Third named) state log home dirty contents page entry = thirdStore state log home dirty contents page
 
 -- page and entry: the page that is cleaned, and its first group and bytes
 pub record CleanStep (state : State) (log home frames : List ℕ) (result : Outcome) (log′ home′ : List ℕ) : Type 0 where

@@ -39,19 +39,13 @@ noUpdate = record { page = 0; offset = 0; bytes = [] }
 
 -- the next update of the oldest group, with its index and the last committed ticket
 abbrev pub updateBlock : State → List Update → List DirtyPage → LogBlock
-updateBlock state group dirtyPages = record {
-  kind = update (state .stored + 1) (getD group (state .stored) noUpdate);
-  keepFrom = keepFromOf (groupStart state) dirtyPages;
-  ticket = state .ticket;
-}
+updateBlock state group dirtyPages =
+    record { kind = update (state .stored + 1) (getD group (state .stored) noUpdate); keepFrom = keepFromOf (groupStart state) dirtyPages; ticket = state .ticket }
 
 -- its commit, with its own ticket, one above the last; dirtyPages are those dirty once it is stored
 abbrev pub commitBlock : State → List Update → List DirtyPage → LogBlock
-commitBlock state group dirtyPages = record {
-  kind = commit (length group);
-  keepFrom = keepFromOf (groupStart state) dirtyPages;
-  ticket = state .ticket + 1;
-}
+commitBlock state group dirtyPages =
+    record { kind = commit (length group); keepFrom = keepFromOf (groupStart state) dirtyPages; ticket = state .ticket + 1 }
 
 -- ---- what it leaves
 

@@ -20,15 +20,15 @@ use Rattle.promises.proofs.History.Stands.{blockStands, allStand}
 use Rattle.promises.proofs.History.Since.{Same, same, stale, Sim, sim-step, sim-begin, Below}
 use Rattle.promises.proofs.History.Sees.{Sees, clear, held, by-eq, Tells, tells-step, sees-all}
 use Rattle.promises.proofs.History.WalkStart.{Distinct, distinct-all, distinct-without, isCommit, commits}
-use Rattle.promises.proofs.History.Tally.{tally, tally-mono, tally-same, tally-look, here, Pages, isDirty, sees-here, same-le}
+use Rattle.promises.proofs.History.Tally.{tally, tally-mono, tally-same, tally-lookUp, here, Pages, isDirty, sees-here, same-le}
 
 abbrev pub Ups : ℕ → List Update → Type 0
 Ups P [] = Unit {0}
 Ups P (u ∷ us) = (u .page < P) × Ups P us
 
-ups-snoc : (P : ℕ) (us : List Update) (u : Update) → Ups P us → u .page < P → Ups P (us ++ (u ∷ []))
-ups-snoc P [] u a h = (h, tt)
-ups-snoc P (v ∷ us) u a h = (a .0, ups-snoc P us u (a .1) h)
+updates-snoc : (P : ℕ) (us : List Update) (u : Update) → Ups P us → u .page < P → Ups P (us ++ (u ∷ []))
+updates-snoc P [] u a h = (h, tt)
+updates-snoc P (v ∷ us) u a h = (a .0, updates-snoc P us u (a .1) h)
 
 -- all pages' views at once
 abbrev pub Views : Type 0
@@ -56,17 +56,17 @@ pub record Beside (k P m : ℕ) (home : ℕ → List ℕ) (v : Walk) (ts ss : Vi
   pub pages : Pages P (v .dirtyPages)
   pub distinct : Distinct (v .dirtyPages)
 
-pages-touch : (P s : ℕ) (home : ℕ → List ℕ) (u : Update) (es : List DirtyPage) → u .page < P → Pages P es → Pages P (apply s home u es)
+pages-apply : (P s : ℕ) (home : ℕ → List ℕ) (u : Update) (es : List DirtyPage) → u .page < P → Pages P es → Pages P (apply s home u es)
 unfolding apply
-pages-touch P s home u [] h a = (h, tt)
-pages-touch P s home u (e ∷ es) h a = by-eq (u .page) (e .page)
+pages-apply P s home u [] h a = (h, tt)
+pages-apply P s home u (e ∷ es) h a = by-eq (u .page) (e .page)
     (λ q. simp (eq-eqb _ _ q) (a .0, a .1))
-    (λ n. simp (ne-eqb _ _ n) (a .0, pages-touch P s home u es h (a .1)))
+    (λ n. simp (ne-eqb _ _ n) (a .0, pages-apply P s home u es h (a .1)))
 
 pub pages-all : (P s : ℕ) (home : ℕ → List ℕ) (us : List Update) (es : List DirtyPage) → Ups P us → Pages P es → Pages P (applyAll s home us es)
 unfolding applyAll
 pages-all P s home [] es h a = a
-pages-all P s home (u ∷ us) es h a = pages-all P s home us (apply s home u es) (h .1) (pages-touch P s home u es (h .0) a)
+pages-all P s home (u ∷ us) es h a = pages-all P s home us (apply s home u es) (h .1) (pages-apply P s home u es (h .0) a)
 
 pub pages-without : (P q : ℕ) (es : List DirtyPage) → Pages P es → Pages P (without q es)
 unfolding without
@@ -78,15 +78,15 @@ pages-without P q (e ∷ es) a = by-eq q (e .page)
 -- the walk's list is no longer than the history's count of dirty pages
 few : (k P : ℕ) (home : ℕ → List ℕ) (es : List DirtyPage) (ts ss : ℕ → Page) → Distinct es → Pages P es
     → ((p : ℕ) → Sees (home p) (lookUp p es) (ss p)) → ((p : ℕ) → Same k (ts p) (ss p)) → length es ≤ tally P (λ p. isDirty (ts p))
-few k P home es ts ss d b s m = omega (arith, tally-look P es d b, tally-mono P (λ p. here (lookUp p es)) (λ p. isDirty (ts p)) (λ p. omega (arith, sees-here (s p), same-le (m p))))
+few k P home es ts ss d b s m = omega (arith, tally-lookUp P es d b, tally-mono P (λ p. here (lookUp p es)) (λ p. isDirty (ts p)) (λ p. omega (arith, sees-here (s p), same-le (m p))))
 
 commit-sees : (home : ℕ → List ℕ) (p j n : ℕ) (v : Walk) (t : View) → Tells home p v t → Sees (home p) (lookUp p (applyAll (v .start) home (v .group) (v .dirtyPages))) (viewBlock p j (commit n) t .page)
 unfolding walkBlock
 commit-sees home p j n v t m = tells-step home p j (commit n) v t m .sees
 
-ok-blk : (F k P j m : ℕ) (home : ℕ → List ℕ) (b : Kind) (t : ℕ) (v : Walk) (ts ss : Views) → Beside k P m home v ts ss → Right F P j m ts b t → blockStands F home b t v ≡ true
+ok-block : (F k P j m : ℕ) (home : ℕ → List ℕ) (b : Kind) (t : ℕ) (v : Walk) (ts ss : Views) → Beside k P m home v ts ss → Right F P j m ts b t → blockStands F home b t v ≡ true
 unfolding blockStands
-ok-blk F k P j m home (update i u) t v ts ss d r =
+ok-block F k P j m home (update i u) t v ts ss d r =
     let pl : length (v .group) ≡ length (ts 0 .group) = ap length (d .tells 0 .group ∙ sym (d .sim 0 .group)) in
     let tk : t ≡ v .ticket = r .2 ∙ sym (d .ticket) in
     go pl tk (r .0)
@@ -96,7 +96,7 @@ ok-blk F k P j m home (update i u) t v ts ss d r =
     go pl tk (inl e) = simp (eq-eqb _ _ e, eq-eqb _ _ tk)
     go pl tk (inr e) = by-eq i 1 (λ q. simp (eq-eqb _ _ q, eq-eqb _ _ tk))
         (λ n. simp (ne-eqb _ _ n, lt-ltb 0 (length (v .group)) (omega arith), eq-eqb i (length (v .group) + 1) (omega arith), eq-eqb _ _ tk))
-ok-blk F k P j m home (commit n) t v ts ss d r =
+ok-block F k P j m home (commit n) t v ts ss d r =
     let pl : length (v .group) ≡ length (ts 0 .group) = ap length (d .tells 0 .group ∙ sym (d .sim 0 .group)) in
     let es : List DirtyPage = applyAll (v .start) home (v .group) (v .dirtyPages) in
     let le : length es ≤ F = omega (
@@ -110,7 +110,7 @@ ok-blk F k P j m home (commit n) t v ts ss d r =
   where
     committed : (p : ℕ) → Sees (home p) (lookUp p (applyAll (v .start) home (v .group) (v .dirtyPages))) (after j (commit n) ss p .page)
     committed p = commit-sees home p j n v (ss p) (d .tells p)
-ok-blk F k P j m home (clean q) t v ts ss d r = eq-eqb t (v .ticket) (r ∙ sym (d .ticket))
+ok-block F k P j m home (clean q) t v ts ss d r = eq-eqb t (v .ticket) (r ∙ sym (d .ticket))
 
 step-ticket : (home : ℕ → List ℕ) (j : ℕ) (k : Kind) (v : Walk) → walkBlock home j k v .ticket ≡ v .ticket + isCommit k
 unfolding walkBlock
@@ -130,11 +130,11 @@ step-pages P j home (update i u) v a b = by-eq i 1 (λ e. simp (eq-eqb _ _ e) b)
 step-pages P j home (commit n) v a b = pages-all P (v .start) home (v .group) (v .dirtyPages) a b
 step-pages P j home (clean q) v a b = pages-without P q (v .dirtyPages) b
 
-pub step-ups : (F P j m t : ℕ) (home : ℕ → List ℕ) (k : Kind) (v : Walk) (ts : Views) → Right F P j m ts k t → Ups P (v .group) → Ups P (walkBlock home j k v .group)
+pub step-updates : (F P j m t : ℕ) (home : ℕ → List ℕ) (k : Kind) (v : Walk) (ts : Views) → Right F P j m ts k t → Ups P (v .group) → Ups P (walkBlock home j k v .group)
 unfolding walkBlock
-step-ups F P j m t home (update i u) v ts r a = by-eq i 1 (λ e. simp (eq-eqb _ _ e) (r .1, tt)) (λ n. simp (ne-eqb _ _ n) (ups-snoc P (v .group) u a (r .1)))
-step-ups F P j m t home (commit n) v ts r a = tt
-step-ups F P j m t home (clean q) v ts r a = tt
+step-updates F P j m t home (update i u) v ts r a = by-eq i 1 (λ e. simp (eq-eqb _ _ e) (r .1, tt)) (λ n. simp (ne-eqb _ _ n) (updates-snoc P (v .group) u a (r .1)))
+step-updates F P j m t home (commit n) v ts r a = tt
+step-updates F P j m t home (clean q) v ts r a = tt
 
 -- the walk goes on beside
 beside-step : (k P F j m : ℕ) (home : ℕ → List ℕ) (b : Kind) (t : ℕ) (v : Walk) (ts ss : Views) → Right F P j m ts b t → Beside k P m home v ts ss
@@ -152,7 +152,7 @@ beside-step k P F j m home b t v ts ss r d = record {
     tick b = step-ticket home j b v ∙ ap (λ (n : ℕ). n + isCommit b) (d .ticket)
 
     us : (b : Kind) → Right F P j m ts b t → Ups P (walkBlock home j b v .group)
-    us b r = step-ups F P j m t home b v ts r (d .updatesOf)
+    us b r = step-updates F P j m t home b v ts r (d .updatesOf)
 
     pg : (b : Kind) → Pages P (walkBlock home j b v .dirtyPages)
     pg b = step-pages P j home b v (d .updatesOf) (d .pages)
@@ -165,7 +165,7 @@ unfolding allStand
 ok-all F k P j m home [] v ts ss f d = refl
 ok-all F k P j m home (b ∷ bs) v ts ss f d =
     rw (
-      ok-blk F k P j m home (b .kind) (b .ticket) v ts ss d (f .0),
+      ok-block F k P j m home (b .kind) (b .ticket) v ts ss d (f .0),
       ok-all F k P (suc j) (m + isCommit (b .kind)) home bs (walkBlock home j (b .kind) v) (after j (b .kind) ts) (after j (b .kind) ss) (f .1) (beside-step k P F j m home (b .kind) (b .ticket) v ts ss (f .0) d),
     ) refl
 
@@ -196,19 +196,19 @@ ok-from F k P j m home b bs ts g l f =
       sim = λ p. sim-begin p j x (ts p) g (l p);
       tells = λ p. tells-step home p j x v noView (tells-none home p (b .ticket));
       ticket = step-ticket home j x v ∙ ap (λ (n : ℕ). n + isCommit x) (right-ticket F P j m ts x (b .ticket) g (f .0));
-      updatesOf = step-ups F P j m (b .ticket) home x v ts (f .0) tt;
+      updatesOf = step-updates F P j m (b .ticket) home x v ts (f .0) tt;
       pages = step-pages P j home x v tt tt;
       distinct = step-distinct home j x v tt;
     } in
     rw (ok-first F home x (b .ticket) g, ok-all F k P (suc j) (m + isCommit x) home bs (walkBlock home j x v) (after j x ts) (after j x (λ p. noView)) (f .1) d) refl
 
 -- a history grows by a block that is right, and what follows a part of it is formed too
-pub formed-app : (F P j m : ℕ) (ts : Views) (xs ys : List LogBlock) → Formed F P j m ts (xs ++ ys)
+pub formed-append : (F P j m : ℕ) (ts : Views) (xs ys : List LogBlock) → Formed F P j m ts (xs ++ ys)
     → Formed F P (length xs + j) (m + commits xs) (λ p. viewFrom p j xs (ts p)) ys
 unfolding viewFrom
-formed-app F P j m ts [] ys f = rw (zero-add, add-zero) f
-formed-app F P j m ts (x ∷ xs) ys f =
-    subst₂ (λ (a b : ℕ). Formed F P a b (λ p. viewFrom p j (x ∷ xs) (ts p)) ys) (omega arith) (omega arith) (formed-app F P (suc j) (m + isCommit (x .kind)) (after j (x .kind) ts) xs ys (f .1))
+formed-append F P j m ts [] ys f = rw (zero-add, add-zero) f
+formed-append F P j m ts (x ∷ xs) ys f =
+    subst₂ (λ (a b : ℕ). Formed F P a b (λ p. viewFrom p j (x ∷ xs) (ts p)) ys) (omega arith) (omega arith) (formed-append F P (suc j) (m + isCommit (x .kind)) (after j (x .kind) ts) xs ys (f .1))
 
 pub formed-snoc : (F P j m : ℕ) (ts : Views) (xs : List LogBlock) (b : LogBlock) → Formed F P j m ts xs
     → Right F P (length xs + j) (m + commits xs) (λ p. viewFrom p j xs (ts p)) (b .kind) (b .ticket) → Formed F P j m ts (xs ++ (b ∷ []))

@@ -17,17 +17,17 @@ use Rattle.promises.specs.Updates.{ofPage}
 use Rattle.promises.proofs.History.Machine.{lastKeep, Live, World, State, down, up, Cleaning, idle, second, third, noUpdate, updateLogged, commitLogged, cleaningAfter, idleUnlessNone, setPage, halfStored, cleanLogged}
 use Rattle.promises.specs.DirtyPages.{DirtyPage, Found, absent, at, lookUp, apply, applyAll, without, keepFromOf}
 use Rattle.promises.proofs.History.Ledger.{Book}
-use Rattle.promises.proofs.History.OldOrNew.{Mix, redo-mix, mix-front, mix-back, mix-length}
-use Rattle.promises.proofs.History.Since.{AtLeast, Below, track-app, from-keepFrom}
-use Rattle.promises.proofs.History.Sees.{Sees, clear, held, by-eq, redo-app, sees-all, sees-without}
-use Rattle.promises.proofs.History.WalkStart.{BeginsAt, begins-app, begins-last, Distinct, Good, oldest-begins, oldest-le, oldest-least, distinct-all, distinct-without, lastKeep-snoc, isCommit}
+use Rattle.promises.proofs.History.OldOrNew.{Mix, redo-mixed, mixed-front, mixed-back, mixed-length}
+use Rattle.promises.proofs.History.Since.{AtLeast, Below, track-append, from-keepFrom}
+use Rattle.promises.proofs.History.Sees.{Sees, clear, held, by-eq, redo-append, sees-all, sees-without}
+use Rattle.promises.proofs.History.WalkStart.{BeginsAt, begins-append, begins-last, Distinct, Good, keepFrom-begins, keepFrom-le, keepFrom-least, distinct-all, distinct-without, lastKeep-snoc, isCommit}
 
 abbrev pub view : List LogBlock → ℕ → View
 view history p = viewFrom p 1 history noView
 
 pub view-snoc : (history : List LogBlock) (b : LogBlock) (p : ℕ) → view (history ++ (b ∷ [])) p ≡ viewBlock p (length history + 1) (b .kind) (view history p)
 unfolding viewFrom
-view-snoc history b p = track-app p 1 history (b ∷ []) noView
+view-snoc history b p = track-append p 1 history (b ∷ []) noView
 
 -- a page's first group begins a walk
 pub data First (history : List LogBlock) (m : ℕ) : Page → Type 0 where
@@ -93,23 +93,23 @@ first-good : {history : List LogBlock} {m : ℕ} {h : List ℕ} {x : Found} {c :
 first-good clear f = tt
 first-good (held q) (some g) = g
 
-first-app : {history : List LogBlock} {m : ℕ} (b : LogBlock) {c : Page} → First history m c → First (history ++ (b ∷ [])) (m + isCommit (b .kind)) c
-first-app b none = none
-first-app b (some g) = some (begins-app b g)
+first-append : {history : List LogBlock} {m : ℕ} (b : LogBlock) {c : Page} → First history m c → First (history ++ (b ∷ [])) (m + isCommit (b .kind)) c
+first-append b none = none
+first-append b (some g) = some (begins-append b g)
 
 -- keepFrom-from of a new block whose own default is d
 keeps : (history : List LogBlock) (m d : ℕ) (home : ℕ → List ℕ) (es : List DirtyPage) → Distinct es
     → ((p : ℕ) → Sees (home p) (lookUp p es) (view history p .page)) → ((p : ℕ) → First history m (view history p .page))
     → BeginsAt history m d → BeginsAt history m (keepFromOf d es)
-keeps history m d home es u s f g = oldest-begins history m d es u (λ p. first-good (s p) (f p)) g
+keeps history m d home es u s f g = keepFrom-begins history m d es u (λ p. first-good (s p) (f p)) g
 
 -- ---- an update is stored
-cur-update : (p j i : ℕ) (u : Update) (t : View) → viewBlock p j (update i u) t .page ≡ t .page
+page-update : (p j i : ℕ) (u : Update) (t : View) → viewBlock p j (update i u) t .page ≡ t .page
 unfolding viewBlock
-cur-update p j i u t = by-eq i 1 (λ e. simp (eq-eqb _ _ e)) (λ n. simp (ne-eqb _ _ n))
+page-update p j i u t = by-eq i 1 (λ e. simp (eq-eqb _ _ e)) (λ n. simp (ne-eqb _ _ n))
 
 view-update : (history : List LogBlock) (b : LogBlock) (i : ℕ) (u : Update) (p : ℕ) → b .kind ≡ update i u → view (history ++ (b ∷ [])) p .page ≡ view history p .page
-view-update history b i u p e = ap (λ (t : View). t .page) (view-snoc history b p) ∙ ap (λ (k : Kind). viewBlock p (length history + 1) k (view history p) .page) e ∙ cur-update p _ i u _
+view-update history b i u p e = ap (λ (t : View). t .page) (view-snoc history b p) ∙ ap (λ (k : Kind). viewBlock p (length history + 1) k (view history p) .page) e ∙ page-update p _ i u _
 
 disk-update : (history : List LogBlock) (home pages : ℕ → List ℕ) (m k t i : ℕ) (u : Update) → Disk history home pages m → ((p : ℕ) → AtLeast k (view history p .page))
     → BeginsAt (history ++ (record { kind = update i u; keepFrom = k; ticket = t } ∷ [])) m k
@@ -122,7 +122,7 @@ disk-update history home pages m k t i u d a g =
       sized = d .sized;
       wide = d .wide;
       legal = λ p. rw (e p) (d .legal p);
-      firstGroups = λ p. rw (e p) (subst (λ (n : ℕ). First (history ++ (b ∷ [])) n (view history p .page)) (omega arith) (first-app b (d .firstGroups p)));
+      firstGroups = λ p. rw (e p) (subst (λ (n : ℕ). First (history ++ (b ∷ [])) n (view history p .page)) (omega arith) (first-append b (d .firstGroups p)));
       least = λ p. rw (e p, lastKeep-snoc history b) (a p);
       keepFrom = keepFrom-snoc history m b g;
     }
@@ -153,7 +153,7 @@ begins-one n u e = rw e first
 half-begins : (history : List LogBlock) (m n k t : ℕ) (u : Update) (q : List (List Update)) → t ≡ m → Half history m n q
     → BeginsAt (history ++ (record { kind = update (n + 1) u; keepFrom = k; ticket = t } ∷ [])) m (length history + 1 - n)
 half-begins history m n k t u q e (whole z) = subst (BeginsAt _ m) (omega arith) (begins-last history m _ (begins-one n u z) (omega arith))
-half-begins history m n k t u q e (part g r a z le pd st bg) = subst (λ (x : ℕ). BeginsAt (history ++ (record { kind = update (n + 1) u; keepFrom = k; ticket = t } ∷ [])) x (length history + 1 - n)) (omega arith) (begins-app (record { kind = update (n + 1) u; keepFrom = k; ticket = t }) bg)
+half-begins history m n k t u q e (part g r a z le pd st bg) = subst (λ (x : ℕ). BeginsAt (history ++ (record { kind = update (n + 1) u; keepFrom = k; ticket = t } ∷ [])) x (length history + 1 - n)) (omega arith) (begins-append (record { kind = update (n + 1) u; keepFrom = k; ticket = t }) bg)
 
 half-update : (history : List LogBlock) (m n k t : ℕ) (g : List Update) (q r : List (List Update)) → t ≡ m → q ≡ g ∷ r → n < length g → Half history m n q
     → Half (history ++ (record { kind = update (n + 1) (getD g n noUpdate); keepFrom = k; ticket = t } ∷ [])) m (n + 1) q
@@ -180,29 +180,29 @@ half-update history m n k t g q r e a h hf = part g r a (omega arith) (omega ari
         go (whole z) = rw (view-snoc history b p) (start-first p _ n _ _ z ∙ omega (arith, length-snoc history b))
         go (part g′ r′ a′ z le pd′ st′ bg) = rw (view-snoc history b p) (start-next p _ n _ _ z ∙ st′ p ∙ omega (arith, length-snoc history b))
 
-good-app : (history : List LogBlock) (m : ℕ) (b : LogBlock) (x : Found) → Good history m x → Good (history ++ (b ∷ [])) (m + isCommit (b .kind)) x
-good-app history m b absent g = tt
-good-app history m b (at e) g = begins-app b g
+good-append : (history : List LogBlock) (m : ℕ) (b : LogBlock) (x : Found) → Good history m x → Good (history ++ (b ∷ [])) (m + isCommit (b .kind)) x
+good-append history m b absent g = tt
+good-append history m b (at e) g = begins-append b g
 
 -- keepFrom-from of the block that is being stored: d is where its own group begins, or itself
-keeps-app : (history : List LogBlock) (m d : ℕ) (b : LogBlock) (home : ℕ → List ℕ) (es : List DirtyPage) → Distinct es
+keeps-append : (history : List LogBlock) (m d : ℕ) (b : LogBlock) (home : ℕ → List ℕ) (es : List DirtyPage) → Distinct es
     → ((p : ℕ) → Good history m (lookUp p es))
     → BeginsAt (history ++ (b ∷ [])) (m + isCommit (b .kind)) d → BeginsAt (history ++ (b ∷ [])) (m + isCommit (b .kind)) (keepFromOf d es)
-keeps-app history m d b home es u s g = oldest-begins (history ++ (b ∷ [])) (m + isCommit (b .kind)) d es u (λ p. good-app history m b (lookUp p es) (s p)) g
+keeps-append history m d b home es u s g = keepFrom-begins (history ++ (b ∷ [])) (m + isCommit (b .kind)) d es u (λ p. good-append history m b (lookUp p es) (s p)) g
 
 abbrev pub counted : Book → Book
 counted b = record { pages = b .pages; m = b .m; queue = b .queue; count = b .count + 1 }
 
-pub inv-update : (w : World) (l : Live) (b : Book) (g : List Update) (r : List (List Update)) → Disk (w .history) (w .home) (b .pages) (b .m) → Alive (w .history) (w .home) l b
+pub invariant-update : (w : World) (l : Live) (b : Book) (g : List Update) (r : List (List Update)) → Disk (w .history) (w .home) (b .pages) (b .m) → Alive (w .history) (w .home) l b
     → l .queue ≡ g ∷ r → l .count < length g → Inv (updateLogged w l g) (counted b)
 unfolding updateLogged
-inv-update w l b g r d a e h =
+invariant-update w l b g r d a e h =
     let k : ℕ = keepFromOf (length (w .history) + 1 - l .count) (l .dirtyPages) in
     let x : LogBlock = record { kind = update (l .count + 1) (getD g (l .count) noUpdate); keepFrom = k; ticket = l .ticket } in
-    let bg : BeginsAt (w .history ++ (x ∷ [])) (b .m) k = subst (λ (n : ℕ). BeginsAt (w .history ++ (x ∷ [])) n k) (omega arith) (keeps-app (w .history) (b .m) _ x (w .home) (l .dirtyPages) (a .distinct) (λ p. first-good (a .sees p) (d .firstGroups p))
+    let bg : BeginsAt (w .history ++ (x ∷ [])) (b .m) k = subst (λ (n : ℕ). BeginsAt (w .history ++ (x ∷ [])) n k) (omega arith) (keeps-append (w .history) (b .m) _ x (w .home) (l .dirtyPages) (a .distinct) (λ p. first-good (a .sees p) (d .firstGroups p))
     (subst (λ (n : ℕ). BeginsAt (w .history ++ (x ∷ [])) n (length (w .history) + 1 - l .count)) (omega arith) (half-begins (w .history) (b .m) (l .count) k (l .ticket) (getD g (l .count) noUpdate) (l .queue) (a .ticket) (a .half)))) in
     record {
-      disk = disk-update (w .history) (w .home) (b .pages) (b .m) k (l .ticket) (l .count + 1) (getD g (l .count) noUpdate) d (λ p. oldest-least (w .home p) _ p (l .dirtyPages) _ (a .sees p)) bg;
+      disk = disk-update (w .history) (w .home) (b .pages) (b .m) k (l .ticket) (l .count + 1) (getD g (l .count) noUpdate) d (λ p. keepFrom-least (w .home p) _ p (l .dirtyPages) _ (a .sees p)) bg;
       lives = record {
         ticket = a .ticket;
         queue = a .queue;
@@ -216,27 +216,27 @@ inv-update w l b g r d a e h =
     }
 
 -- ---- a commit is stored
-redo-bump : (s : ℕ) (us : List Update) (c : Page) (h : List ℕ) → redo (updatesOf (committedOver s us c)) h ≡ redo us (redo (updatesOf c) h)
+redo-committed : (s : ℕ) (us : List Update) (c : Page) (h : List ℕ) → redo (updatesOf (committedOver s us c)) h ≡ redo us (redo (updatesOf c) h)
 unfolding committedOver redo
-redo-bump s [] c h = refl
-redo-bump s (u ∷ us) tidy h = refl
-redo-bump s (u ∷ us) (dirty f vs) h = redo-app vs (u ∷ us) h
+redo-committed s [] c h = refl
+redo-committed s (u ∷ us) tidy h = refl
+redo-committed s (u ∷ us) (dirty f vs) h = redo-append vs (u ∷ us) h
 
-legal-app : (n : ℕ) (us vs : List Update) → Legal n us → Legal n vs → Legal n (us ++ vs)
+legal-append : (n : ℕ) (us vs : List Update) → Legal n us → Legal n vs → Legal n (us ++ vs)
 unfolding Legal
-legal-app n [] vs a b = b
-legal-app n (u ∷ us) vs a b = (a .0, legal-app n us vs (a .1) b)
+legal-append n [] vs a b = b
+legal-append n (u ∷ us) vs a b = (a .0, legal-append n us vs (a .1) b)
 
-legal-bump : (n s : ℕ) (us : List Update) (c : Page) → Legal n (updatesOf c) → Legal n us → Legal n (updatesOf (committedOver s us c))
+legal-committed : (n s : ℕ) (us : List Update) (c : Page) → Legal n (updatesOf c) → Legal n us → Legal n (updatesOf (committedOver s us c))
 unfolding committedOver
-legal-bump n s [] c a b = a
-legal-bump n s (u ∷ us) tidy a b = b
-legal-bump n s (u ∷ us) (dirty f vs) a b = legal-app n vs (u ∷ us) a b
+legal-committed n s [] c a b = a
+legal-committed n s (u ∷ us) tidy a b = b
+legal-committed n s (u ∷ us) (dirty f vs) a b = legal-append n vs (u ∷ us) a b
 
-legal-mine : (n p : ℕ) (us : List Update) → Legal n us → Legal n (ofPage p us)
+legal-ofPage : (n p : ℕ) (us : List Update) → Legal n us → Legal n (ofPage p us)
 unfolding Legal ofPage
-legal-mine n p [] a = tt
-legal-mine n p (u ∷ us) a = by-eq p (u .page) (λ e. simp (eq-eqb _ _ e) (a .0, legal-mine n p us (a .1))) (λ z. simp (ne-eqb _ _ z) (legal-mine n p us (a .1)))
+legal-ofPage n p [] a = tt
+legal-ofPage n p (u ∷ us) a = by-eq p (u .page) (λ e. simp (eq-eqb _ _ e) (a .0, legal-ofPage n p us (a .1))) (λ z. simp (ne-eqb _ _ z) (legal-ofPage n p us (a .1)))
 
 length-put : (u : Update) (h : List ℕ) → u .offset + length (u .bytes) ≤ length h → length (put u h) ≡ length h
 unfolding put
@@ -247,17 +247,17 @@ unfolding redo Legal
 length-redo n [] h a e = e
 length-redo n (u ∷ us) h a e = length-redo n us (put u h) (a .1) (length-put u h (rw e (a .0)) ∙ e)
 
-first-bump : {history : List LogBlock} {m : ℕ} (s : ℕ) (us : List Update) (c : Page) → BeginsAt history m s → First history m c → First history m (committedOver s us c)
+first-committed : {history : List LogBlock} {m : ℕ} (s : ℕ) (us : List Update) (c : Page) → BeginsAt history m s → First history m c → First history m (committedOver s us c)
 unfolding committedOver
-first-bump s [] c g f = f
-first-bump s (u ∷ us) tidy g f = some g
-first-bump s (u ∷ us) (dirty x vs) g (some f) = some f
+first-committed s [] c g f = f
+first-committed s (u ∷ us) tidy g f = some g
+first-committed s (u ∷ us) (dirty x vs) g (some f) = some f
 
-least-bump : {k : ℕ} (s : ℕ) (us : List Update) (c : Page) → k ≤ s → AtLeast k c → AtLeast k (committedOver s us c)
+least-committed : {k : ℕ} (s : ℕ) (us : List Update) (c : Page) → k ≤ s → AtLeast k c → AtLeast k (committedOver s us c)
 unfolding committedOver
-least-bump s [] c h a = a
-least-bump s (u ∷ us) tidy h a = AtLeast.some h
-least-bump s (u ∷ us) (dirty x vs) h (AtLeast.some g) = AtLeast.some g
+least-committed s [] c h a = a
+least-committed s (u ∷ us) tidy h a = AtLeast.some h
+least-committed s (u ∷ us) (dirty x vs) h (AtLeast.some g) = AtLeast.some g
 
 view-commit : (history : List LogBlock) (k t n s : ℕ) (g : List Update) (p : ℕ) → view history p .group ≡ g → view history p .start ≡ s
     → view (history ++ (record { kind = commit n; keepFrom = k; ticket = t } ∷ [])) p .page ≡ committedOver s (ofPage p g) (view history p .page)
@@ -273,12 +273,12 @@ disk-commit history home pages m k n s g d pd st lg bs ks a bg =
     let b : LogBlock = record { kind = commit n; keepFrom = k; ticket = m + 1 } in
     let e : (p : ℕ) → view (history ++ (b ∷ [])) p .page ≡ committedOver s (ofPage p g) (view history p .page) = λ p. view-commit history k (m + 1) n s g p (pd p) (st p) in
     record {
-      right = λ p. rw (e p) (redo-bump s (ofPage p g) (view history p .page) (home p) ∙ ap (redo (ofPage p g)) (d .right p));
+      right = λ p. rw (e p) (redo-committed s (ofPage p g) (view history p .page) (home p) ∙ ap (redo (ofPage p g)) (d .right p));
       sized = d .sized;
-      wide = λ p. length-redo 1024 (ofPage p g) (pages p) (legal-mine 1024 p g lg) (d .wide p);
-      legal = λ p. rw (e p) (legal-bump 1024 s (ofPage p g) (view history p .page) (d .legal p) (legal-mine 1024 p g lg));
-      firstGroups = λ p. rw (e p) (first-bump s (ofPage p g) (view history p .page) (begins-app b bs) (first-app b (d .firstGroups p)));
-      least = λ p. rw (e p, lastKeep-snoc history b) (least-bump s (ofPage p g) (view history p .page) ks (a p));
+      wide = λ p. length-redo 1024 (ofPage p g) (pages p) (legal-ofPage 1024 p g lg) (d .wide p);
+      legal = λ p. rw (e p) (legal-committed 1024 s (ofPage p g) (view history p .page) (d .legal p) (legal-ofPage 1024 p g lg));
+      firstGroups = λ p. rw (e p) (first-committed s (ofPage p g) (view history p .page) (begins-append b bs) (first-append b (d .firstGroups p)));
+      least = λ p. rw (e p, lastKeep-snoc history b) (least-committed s (ofPage p g) (view history p .page) ks (a p));
       keepFrom = keepFrom-snoc history (m + 1) b bg;
     }
 
@@ -311,10 +311,10 @@ full history m n g q r e z h (part g′ r′ e′ y le pd st bg) =
     let s : g′ ≡ g = cc in
     record { pd = λ p. pd p ∙ take-all n g′ (rw s h) ∙ s; st = st; bg = bg }
 
-pub inv-commit : (w : World) (l : Live) (b : Book) (g : List Update) (r : List (List Update)) → Disk (w .history) (w .home) (b .pages) (b .m) → Alive (w .history) (w .home) l b
+pub invariant-commit : (w : World) (l : Live) (b : Book) (g : List Update) (r : List (List Update)) → Disk (w .history) (w .home) (b .pages) (b .m) → Alive (w .history) (w .home) l b
     → l .queue ≡ g ∷ r → length g ≤ l .count → Inv (commitLogged w l g r) (committed b g r)
 unfolding commitLogged
-inv-commit w l b g r d a e h =
+invariant-commit w l b g r d a e h =
     let ws : Wells (g ∷ r) = rw e at (a .wells) in
     let f : Full (w .history) (b .m) (l .count) g = full (w .history) (b .m) (l .count) g (l .queue) r e (ws .0 .0) h (a .half) in
     let s : ℕ = length (w .history) + 1 - l .count in
@@ -322,10 +322,10 @@ inv-commit w l b g r d a e h =
     let x : LogBlock = record { kind = commit (length g); keepFrom = k; ticket = l .ticket + 1 } in
     let y : LogBlock = record { kind = commit (length g); keepFrom = k; ticket = b .m + 1 } in
     let xy : x ≡ y = ap (λ (n : ℕ). record { kind = commit (length g); keepFrom = k; ticket = n + 1 }) (a .ticket) in
-    let bg : BeginsAt (w .history ++ (y ∷ [])) (b .m + 1) k = keeps-app (w .history) (b .m) s y (w .home) (l .dirtyPages) (a .distinct) (λ p. first-good (a .sees p) (d .firstGroups p)) (begins-app y (f .bg)) in
+    let bg : BeginsAt (w .history ++ (y ∷ [])) (b .m + 1) k = keeps-append (w .history) (b .m) s y (w .home) (l .dirtyPages) (a .distinct) (λ p. first-good (a .sees p) (d .firstGroups p)) (begins-append y (f .bg)) in
     record {
       disk = subst (λ (z : LogBlock). Disk (w .history ++ (z ∷ [])) (w .home) (λ p. redo (ofPage p g) (b .pages p)) (b .m + 1)) (sym xy)
-          (disk-commit (w .history) (w .home) (b .pages) (b .m) k (length g) s g d (f .pd) (f .st) (ws .0 .1) (f .bg) (oldest-le s (l .dirtyPages)) (λ p. oldest-least (w .home p) s p (l .dirtyPages) _ (a .sees p)) bg);
+          (disk-commit (w .history) (w .home) (b .pages) (b .m) k (length g) s g d (f .pd) (f .st) (ws .0 .1) (f .bg) (keepFrom-le s (l .dirtyPages)) (λ p. keepFrom-least (w .home p) s p (l .dirtyPages) _ (a .sees p)) bg);
       lives = record {
         ticket = ap (λ (n : ℕ). n + 1) (a .ticket);
         queue = refl;
@@ -350,13 +350,13 @@ other-page p q x home n = simp (ne-eqb p q n)
 redo-half : (history : List LogBlock) (home pages : ℕ → List ℕ) (m q : ℕ) (x : List ℕ) → Disk history home pages m → Mix (home q) (pages q) x
     → (p : ℕ) → redo (updatesOf (view history p .page)) (setPage q x home p) ≡ redo (updatesOf (view history p .page)) (home p)
 redo-half history home pages m q x d mx p = by-eq p q
-    (λ e. rw (e, same-page q x home) (redo-mix (updatesOf (view history q .page)) (home q) x (rw (d .right q, d .wide q) (d .legal q)) (rw (d .right q) mx)))
+    (λ e. rw (e, same-page q x home) (redo-mixed (updatesOf (view history q .page)) (home q) x (rw (d .right q, d .wide q) (d .legal q)) (rw (d .right q) mx)))
     (λ n. rw (other-page p q x home n) refl)
 
 disk-half : (history : List LogBlock) (home pages : ℕ → List ℕ) (m q : ℕ) (x : List ℕ) → Disk history home pages m → Mix (home q) (pages q) x → Disk history (setPage q x home) pages m
 disk-half history home pages m q x d mx = record {
   right = λ p. redo-half history home pages m q x d mx p ∙ d .right p;
-  sized = λ p. by-eq p q (λ e. rw (e, same-page q x home) (mix-length mx .1 ∙ d .wide q)) (λ n. rw (other-page p q x home n) (d .sized p));
+  sized = λ p. by-eq p q (λ e. rw (e, same-page q x home) (mixed-length mx .1 ∙ d .wide q)) (λ n. rw (other-page p q x home n) (d .sized p));
   wide = d .wide;
   legal = d .legal;
   firstGroups = d .firstGroups;
@@ -372,10 +372,10 @@ sees-home h h′ x c e (held q) = held (q ∙ sym e)
 pub frame-right : (h b : List ℕ) (e : DirtyPage) (c : Page) → Sees h (at e) c → redo (updatesOf c) h ≡ b → e .bytes ≡ b
 frame-right h b e c (held q) r = q ∙ r
 
-inv-half : (w : World) (l : Live) (b : Book) (q : ℕ) (x : List ℕ) (c : Cleaning) → Disk (w .history) (w .home) (b .pages) (b .m) → Alive (w .history) (w .home) l b
+invariant-half : (w : World) (l : Live) (b : Book) (q : ℕ) (x : List ℕ) (c : Cleaning) → Disk (w .history) (w .home) (b .pages) (b .m) → Alive (w .history) (w .home) l b
     → Mix (w .home q) (b .pages q) x → Stage (setPage q x (w .home)) (b .pages) c → Inv (halfStored w l q x c) b
 unfolding halfStored
-inv-half w l b q x c d a mx st = record {
+invariant-half w l b q x c d a mx st = record {
   disk = disk-half (w .history) (w .home) (b .pages) (b .m) q x d mx;
   lives = record {
     ticket = a .ticket;
@@ -393,19 +393,19 @@ take-front : (n : ℕ) (f h : List ℕ) → n ≤ length f → take n (take n f 
 take-front n f h l = take-at (take n f) (drop n h) n (length-take-le n f l)
 
 -- ---- Clean step
-pub inv-front : (w : World) (l : Live) (b : Book) (q : ℕ) (e : DirtyPage) → Disk (w .history) (w .home) (b .pages) (b .m) → Alive (w .history) (w .home) l b → lookUp q (l .dirtyPages) ≡ at e
+pub invariant-front : (w : World) (l : Live) (b : Book) (q : ℕ) (e : DirtyPage) → Disk (w .history) (w .home) (b .pages) (b .m) → Alive (w .history) (w .home) l b → lookUp q (l .dirtyPages) ≡ at e
     → Inv (halfStored w l q (take 512 (e .bytes) ++ drop 512 (w .home q)) (second q)) b
-inv-front w l b q e d a f =
+invariant-front w l b q e d a f =
     let r : e .bytes ≡ b .pages q = frame-right _ _ e _ (rw f at (a .sees q)) (d .right q) in
-    rw r (inv-half w l b q _ (second q) d a (mix-front 512 (w .home q) (b .pages q) (d .sized q ∙ sym (d .wide q)))
+    rw r (invariant-half w l b q _ (second q) d a (mixed-front 512 (w .home q) (b .pages q) (d .sized q ∙ sym (d .wide q)))
     (rw (same-page q) (take-front 512 (b .pages q) (w .home q) (omega (arith, d .wide q)))))
 
-pub inv-back : (w : World) (l : Live) (b : Book) (q : ℕ) (e : DirtyPage) → Disk (w .history) (w .home) (b .pages) (b .m) → Alive (w .history) (w .home) l b → lookUp q (l .dirtyPages) ≡ at e
+pub invariant-back : (w : World) (l : Live) (b : Book) (q : ℕ) (e : DirtyPage) → Disk (w .history) (w .home) (b .pages) (b .m) → Alive (w .history) (w .home) l b → lookUp q (l .dirtyPages) ≡ at e
     → take 512 (w .home q) ≡ take 512 (b .pages q)
     → Inv (halfStored w l q (take 512 (w .home q) ++ drop 512 (e .bytes)) (third q)) b
-inv-back w l b q e d a f s =
+invariant-back w l b q e d a f s =
     let r : e .bytes ≡ b .pages q = frame-right _ _ e _ (rw f at (a .sees q)) (d .right q) in
-    rw r (inv-half w l b q _ (third q) d a (mix-back 512 (w .home q) (b .pages q) (d .sized q ∙ sym (d .wide q)))
+    rw r (invariant-half w l b q _ (third q) d a (mixed-back 512 (w .home q) (b .pages q) (d .sized q ∙ sym (d .wide q)))
     (rw (same-page q, s) (take-append-drop 512 (b .pages q))))
 
 view-clean : (history : List LogBlock) (k t q p : ℕ) → view (history ++ (record { kind = clean q; keepFrom = k; ticket = t } ∷ [])) p .page ≡ cond (eqb p q) tidy (view history p .page)
@@ -421,18 +421,18 @@ unfolding Legal
 legal-cond true c f = tt
 legal-cond false c f = f
 
-pub inv-clean : (w : World) (l : Live) (b : Book) (q : ℕ) → Disk (w .history) (w .home) (b .pages) (b .m) → Alive (w .history) (w .home) l b
+pub invariant-clean : (w : World) (l : Live) (b : Book) (q : ℕ) → Disk (w .history) (w .home) (b .pages) (b .m) → Alive (w .history) (w .home) l b
     → w .home q ≡ b .pages q → l .count ≡ 0 → Inv (cleanLogged w l q) b
 unfolding cleanLogged redo
-inv-clean w l b q d a h z =
+invariant-clean w l b q d a h z =
     let es : List DirtyPage = without q (l .dirtyPages) in
     let k : ℕ = keepFromOf (length (w .history) + 1) es in
     let x : LogBlock = record { kind = clean q; keepFrom = k; ticket = l .ticket } in
     let e : (p : ℕ) → view (w .history ++ (x ∷ [])) p .page ≡ cond (eqb p q) tidy (view (w .history) p .page) = λ p. view-clean (w .history) k (l .ticket) q p in
     let ss : (p : ℕ) → Sees (w .home p) (lookUp p es) (view (w .history ++ (x ∷ [])) p .page) = λ p. rw (e p) (sees-without (w .home p) p q (l .dirtyPages) (view (w .history) p .page) (a .sees p)) in
-    let fs : (p : ℕ) → First (w .history ++ (x ∷ [])) (b .m) (view (w .history ++ (x ∷ [])) p .page) = λ p. rw (e p) (first-cond (eqb p q) _ (subst (λ (n : ℕ). First (w .history ++ (x ∷ [])) n (view (w .history) p .page)) (omega arith) (first-app x (d .firstGroups p)))) in
+    let fs : (p : ℕ) → First (w .history ++ (x ∷ [])) (b .m) (view (w .history ++ (x ∷ [])) p .page) = λ p. rw (e p) (first-cond (eqb p q) _ (subst (λ (n : ℕ). First (w .history ++ (x ∷ [])) n (view (w .history) p .page)) (omega arith) (first-append x (d .firstGroups p)))) in
     let ds : Distinct es = distinct-without q (l .dirtyPages) (a .distinct) in
-    let bg : BeginsAt (w .history ++ (x ∷ [])) (b .m) k = oldest-begins (w .history ++ (x ∷ [])) (b .m) (length (w .history) + 1) es ds (λ p. first-good (ss p) (fs p)) (begins-last (w .history) (b .m) x cleans (omega (arith, a .ticket))) in
+    let bg : BeginsAt (w .history ++ (x ∷ [])) (b .m) k = keepFrom-begins (w .history ++ (x ∷ [])) (b .m) (length (w .history) + 1) es ds (λ p. first-good (ss p) (fs p)) (begins-last (w .history) (b .m) x cleans (omega (arith, a .ticket))) in
     record {
       disk = record {
         right = λ p. rw (e p) (by-eq p q (λ y. simp (eq-eqb _ _ y) (rw y h)) (λ n. simp (ne-eqb _ _ n) (d .right p)));
@@ -440,7 +440,7 @@ inv-clean w l b q d a h z =
         wide = d .wide;
         legal = λ p. rw (e p) (legal-cond (eqb p q) _ (d .legal p));
         firstGroups = fs;
-        least = λ p. rw (lastKeep-snoc (w .history) x) (oldest-least (w .home p) _ p es _ (ss p));
+        least = λ p. rw (lastKeep-snoc (w .history) x) (keepFrom-least (w .home p) _ p es _ (ss p));
         keepFrom = keepFrom-snoc (w .history) (b .m) x bg;
       };
       lives = record {

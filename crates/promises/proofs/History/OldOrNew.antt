@@ -14,64 +14,64 @@ pub data Mix : List ℕ → List ℕ → List ℕ → Type 0 where
   new : {a b : ℕ} {p f h : List ℕ} → Mix p f h → Mix (a ∷ p) (b ∷ f) (b ∷ h)
 
 -- a page mixed with itself
-pub mix-self : {p h : List ℕ} → Mix p p h → h ≡ p
-mix-self none = refl
-mix-self (old {a = a} m) = ap (λ (l : List ℕ). a ∷ l) (mix-self m)
-mix-self (new {a = a} m) = ap (λ (l : List ℕ). a ∷ l) (mix-self m)
+pub mixed-self : {p h : List ℕ} → Mix p p h → h ≡ p
+mixed-self none = refl
+mixed-self (old {a = a} m) = ap (λ (l : List ℕ). a ∷ l) (mixed-self m)
+mixed-self (new {a = a} m) = ap (λ (l : List ℕ). a ∷ l) (mixed-self m)
 
-pub mix-old : (p f : List ℕ) → length p ≡ length f → Mix p f p
-mix-old [] [] e = none
-mix-old [] (b ∷ f) e = absurd (omega arith)
-mix-old (a ∷ p) [] e = absurd (omega arith)
-mix-old (a ∷ p) (b ∷ f) e = old (mix-old p f (omega arith))
+pub mixed-old : (p f : List ℕ) → length p ≡ length f → Mix p f p
+mixed-old [] [] e = none
+mixed-old [] (b ∷ f) e = absurd (omega arith)
+mixed-old (a ∷ p) [] e = absurd (omega arith)
+mixed-old (a ∷ p) (b ∷ f) e = old (mixed-old p f (omega arith))
 
-pub mix-new : (p f : List ℕ) → length p ≡ length f → Mix p f f
-mix-new [] [] e = none
-mix-new [] (b ∷ f) e = absurd (omega arith)
-mix-new (a ∷ p) [] e = absurd (omega arith)
-mix-new (a ∷ p) (b ∷ f) e = new (mix-new p f (omega arith))
+pub mixed-new : (p f : List ℕ) → length p ≡ length f → Mix p f f
+mixed-new [] [] e = none
+mixed-new [] (b ∷ f) e = absurd (omega arith)
+mixed-new (a ∷ p) [] e = absurd (omega arith)
+mixed-new (a ∷ p) (b ∷ f) e = new (mixed-new p f (omega arith))
 
 -- the first n bytes from the frame
-pub mix-front : (n : ℕ) (p f : List ℕ) → length p ≡ length f → Mix p f (take n f ++ drop n p)
-mix-front zero p f e = mix-old p f e
-mix-front (suc n) [] [] e = none
-mix-front (suc n) [] (b ∷ f) e = absurd (omega arith)
-mix-front (suc n) (a ∷ p) [] e = absurd (omega arith)
-mix-front (suc n) (a ∷ p) (b ∷ f) e = new (mix-front n p f (omega arith))
+pub mixed-front : (n : ℕ) (p f : List ℕ) → length p ≡ length f → Mix p f (take n f ++ drop n p)
+mixed-front zero p f e = mixed-old p f e
+mixed-front (suc n) [] [] e = none
+mixed-front (suc n) [] (b ∷ f) e = absurd (omega arith)
+mixed-front (suc n) (a ∷ p) [] e = absurd (omega arith)
+mixed-front (suc n) (a ∷ p) (b ∷ f) e = new (mixed-front n p f (omega arith))
 
-pub mix-back : (n : ℕ) (p f : List ℕ) → length p ≡ length f → Mix p f (take n p ++ drop n f)
-mix-back zero p f e = mix-new p f e
-mix-back (suc n) [] [] e = none
-mix-back (suc n) [] (b ∷ f) e = absurd (omega arith)
-mix-back (suc n) (a ∷ p) [] e = absurd (omega arith)
-mix-back (suc n) (a ∷ p) (b ∷ f) e = old (mix-back n p f (omega arith))
+pub mixed-back : (n : ℕ) (p f : List ℕ) → length p ≡ length f → Mix p f (take n p ++ drop n f)
+mixed-back zero p f e = mixed-new p f e
+mixed-back (suc n) [] [] e = none
+mixed-back (suc n) [] (b ∷ f) e = absurd (omega arith)
+mixed-back (suc n) (a ∷ p) [] e = absurd (omega arith)
+mixed-back (suc n) (a ∷ p) (b ∷ f) e = old (mixed-back n p f (omega arith))
 
-pub mix-length : {p f h : List ℕ} → Mix p f h → (length p ≡ length f) × (length h ≡ length f)
-mix-length none = (refl, refl)
-mix-length (old m) = (ap suc (mix-length m .0), ap suc (mix-length m .1))
-mix-length (new m) = (ap suc (mix-length m .0), ap suc (mix-length m .1))
+pub mixed-length : {p f h : List ℕ} → Mix p f h → (length p ≡ length f) × (length h ≡ length f)
+mixed-length none = (refl, refl)
+mixed-length (old m) = (ap suc (mixed-length m .0), ap suc (mixed-length m .1))
+mixed-length (new m) = (ap suc (mixed-length m .0), ap suc (mixed-length m .1))
 
 -- the bytes at the front are put on
-mix-put0 : (bs : List ℕ) {p f h : List ℕ} → length bs ≤ length f → Mix p f h
+mixed-put0 : (bs : List ℕ) {p f h : List ℕ} → length bs ≤ length f → Mix p f h
     → Mix (bs ++ drop (length bs) p) f (bs ++ drop (length bs) h)
-mix-put0 [] l m = m
-mix-put0 (b ∷ bs) l none = absurd (not-suc-le-zero l)
-mix-put0 (b ∷ bs) l (old m) = old (mix-put0 bs (le-of-suc-le-suc l) m)
-mix-put0 (b ∷ bs) l (new m) = old (mix-put0 bs (le-of-suc-le-suc l) m)
+mixed-put0 [] l m = m
+mixed-put0 (b ∷ bs) l none = absurd (not-suc-le-zero l)
+mixed-put0 (b ∷ bs) l (old m) = old (mixed-put0 bs (le-of-suc-le-suc l) m)
+mixed-put0 (b ∷ bs) l (new m) = old (mixed-put0 bs (le-of-suc-le-suc l) m)
 
-mix-putAt : (n : ℕ) (bs : List ℕ) {p f h : List ℕ} → n + length bs ≤ length f → Mix p f h
+mixed-putAt : (n : ℕ) (bs : List ℕ) {p f h : List ℕ} → n + length bs ≤ length f → Mix p f h
     → Mix (take n p ++ (bs ++ drop (n + length bs) p)) f (take n h ++ (bs ++ drop (n + length bs) h))
-mix-putAt zero bs l m = rw zero-add (mix-put0 bs (omega arith) m)
-mix-putAt (suc n) bs l none = absurd (omega arith)
-mix-putAt (suc n) bs l (old m) = rw suc-add (old (mix-putAt n bs (omega arith) m))
-mix-putAt (suc n) bs l (new m) = rw suc-add (new (mix-putAt n bs (omega arith) m))
+mixed-putAt zero bs l m = rw zero-add (mixed-put0 bs (omega arith) m)
+mixed-putAt (suc n) bs l none = absurd (omega arith)
+mixed-putAt (suc n) bs l (old m) = rw suc-add (old (mixed-putAt n bs (omega arith) m))
+mixed-putAt (suc n) bs l (new m) = rw suc-add (new (mixed-putAt n bs (omega arith) m))
 
-pub mix-put : (u : Update) {p f h : List ℕ} → u .offset + length (u .bytes) ≤ length f → Mix p f h → Mix (put u p) f (put u h)
+pub mixed-put : (u : Update) {p f h : List ℕ} → u .offset + length (u .bytes) ≤ length f → Mix p f h → Mix (put u p) f (put u h)
 unfolding put
-mix-put u l m = mix-putAt (u .offset) (u .bytes) l m
+mixed-put u l m = mixed-putAt (u .offset) (u .bytes) l m
 
 -- REDO AGAIN: a page each of whose bytes is the old one or the one that redo leaves, comes out the same
-pub redo-mix : (us : List Update) (p h : List ℕ) → Legal (length (redo us p)) us → Mix p (redo us p) h → redo us h ≡ redo us p
+pub redo-mixed : (us : List Update) (p h : List ℕ) → Legal (length (redo us p)) us → Mix p (redo us p) h → redo us h ≡ redo us p
 unfolding redo Legal
-redo-mix [] p h l m = mix-self m
-redo-mix (u ∷ us) p h l m = redo-mix us (put u p) (put u h) (l .1) (mix-put u (l .0) m)
+redo-mixed [] p h l m = mixed-self m
+redo-mixed (u ∷ us) p h l m = redo-mixed us (put u p) (put u h) (l .1) (mixed-put u (l .0) m)

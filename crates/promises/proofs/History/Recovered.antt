@@ -21,7 +21,7 @@ use Rattle.promises.proofs.History.Ledger.{Book, gone}
 use Rattle.promises.proofs.History.Since.{AtLeast, Below, from-keepFrom, below-track}
 use Rattle.promises.proofs.History.Sees.{Sees, clear, held, by-eq, Tells, tells-walk}
 use Rattle.promises.proofs.History.WalkStart.{BeginsAt, Distinct, distinct-all, distinct-without, isCommit, commits}
-use Rattle.promises.proofs.History.Invariant.{view, First, Disk, Keep, empty, from, Half, whole, part, Well, Wells, Stage, Alive, Lives, Inv, counted, inv-update, committed, inv-commit, frame-right, inv-front, inv-back, inv-clean}
+use Rattle.promises.proofs.History.Invariant.{view, First, Disk, Keep, empty, from, Half, whole, part, Well, Wells, Stage, Alive, Lives, Inv, counted, invariant-update, committed, invariant-commit, frame-right, invariant-front, invariant-back, invariant-clean}
 
 -- ---- Open
 abbrev walkAt : ℕ → Walk
@@ -72,9 +72,9 @@ unfolding lastKeep
 tail-ticket history m (empty e z) = rw e (omega arith)
 tail-ticket history m (from g) = rw (rest history m (lastKeep history) g) (g .tick)
 
-pub inv-open : (w : World) (b : Book) → Disk (w .history) (w .home) (b .pages) (b .m) → Alive (w .history) (w .home) (recover (w .home) (w .history)) (gone b)
+pub invariant-open : (w : World) (b : Book) → Disk (w .history) (w .home) (b .pages) (b .m) → Alive (w .history) (w .home) (recover (w .home) (w .history)) (gone b)
 unfolding recover lookUp
-inv-open w b d =
+invariant-open w b d =
     let k : ℕ = lastKeep (w .history) in
     let bs : List LogBlock = drop (k - 1) (w .history) in
     let v : Walk = walkAt (believed bs) in
@@ -90,13 +90,13 @@ inv-open w b d =
     }
 
 -- ---- the calls
-pub wells-app : (q : List (List Update)) (g : List Update) → Wells q → Well g → Wells (q ++ (g ∷ []))
-wells-app [] g a b = (b, tt)
-wells-app (x ∷ q) g a b = (a .0, wells-app q g (a .1) b)
+pub wells-append : (q : List (List Update)) (g : List Update) → Wells q → Well g → Wells (q ++ (g ∷ []))
+wells-append [] g a b = (b, tt)
+wells-append (x ∷ q) g a b = (a .0, wells-append q g (a .1) b)
 
-pub half-app : (history : List LogBlock) (m n : ℕ) (q : List (List Update)) (g : List Update) → Half history m n q → Half history m n (q ++ (g ∷ []))
-half-app history m n q g (whole z) = whole z
-half-app history m n q g (part x r e z l pd st bg) = part x (r ++ (g ∷ [])) (ap (λ (y : List (List Update)). y ++ (g ∷ [])) e) z l pd st bg
+pub half-append : (history : List LogBlock) (m n : ℕ) (q : List (List Update)) (g : List Update) → Half history m n q → Half history m n (q ++ (g ∷ []))
+half-append history m n q g (whole z) = whole z
+half-append history m n q g (part x r e z l pd st bg) = part x (r ++ (g ∷ [])) (ap (λ (y : List (List Update)). y ++ (g ∷ [])) e) z l pd st bg
 
 pub alive-end : (history : List LogBlock) (home : ℕ → List ℕ) (l : Live) (b : Book) (g : List Update) → Well g → Alive history home l b
     → Alive history home (record { ticket = l .ticket; queue = l .queue ++ (g ∷ []); count = l .count; dirtyPages = l .dirtyPages; cleaning = l .cleaning })
@@ -107,8 +107,8 @@ alive-end history home l b g wg a = record {
   count = a .count;
   sees = a .sees;
   distinct = a .distinct;
-  half = half-app history (b .m) (l .count) (l .queue) g (a .half);
-  wells = wells-app (l .queue) g (a .wells) wg;
+  half = half-append history (b .m) (l .count) (l .queue) g (a .half);
+  wells = wells-append (l .queue) g (a .wells) wg;
   stage = a .stage;
 }
 
@@ -116,9 +116,9 @@ alive-end history home l b g wg a = record {
 pub by-lt {ℓ} : {X : Type ℓ} (a b : ℕ) → (a < b → X) → (b ≤ a → X) → X
 by-lt a b f g = elim (decLe (suc a) b) [ yes h ↦ f h | no h ↦ g (omega arith) ]
 
-pub inv-start : (home : ℕ → List ℕ) → ((p : ℕ) → length (home p) ≡ 1024) → Inv (record { history = []; home = home; live = down }) (record { pages = home; m = 0; queue = []; count = 0 })
+pub invariant-start : (home : ℕ → List ℕ) → ((p : ℕ) → length (home p) ≡ 1024) → Inv (record { history = []; home = home; live = down }) (record { pages = home; m = 0; queue = []; count = 0 })
 unfolding viewFrom redo Legal
-inv-start home h = record {
+invariant-start home h = record {
   disk = record { right = λ p. refl; sized = h; wide = h; legal = λ p. tt; firstGroups = λ p. First.none; least = λ p. AtLeast.none; keepFrom = empty refl refl };
   lives = tt;
 }

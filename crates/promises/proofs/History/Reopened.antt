@@ -24,12 +24,12 @@ use Rattle.promises.proofs.History.Stands.{allStand}
 use Rattle.promises.proofs.History.Sizes.{Sizes, opened}
 use Rattle.promises.proofs.History.Since.{AtLeast, Below, below-track}
 use Rattle.promises.proofs.History.Sees.{Sees, clear, held, by-eq}
-use Rattle.promises.proofs.History.WalkStart.{BeginsAt, commits, isCommit, Distinct, min-or, look-head}
+use Rattle.promises.proofs.History.WalkStart.{BeginsAt, commits, isCommit, Distinct, min-or, lookUp-head}
 use Rattle.promises.proofs.History.Invariant.{view, Disk, Keep, empty, from, Alive}
-use Rattle.promises.proofs.History.Ring.{Holds, noBlock, reads-none, reads-hist, newest-le, newest-ge}
+use Rattle.promises.proofs.History.Ring.{Holds, noBlock, gathered-none, gathered-history, newest-le, newest-ge}
 use Rattle.promises.proofs.History.Tally.{tally, Pages, tally-zero}
-use Rattle.promises.proofs.History.Accepted.{formed-cap, Ups, Views, after, Formed, formed-app, ok-from, walkAt, step-ups, step-pages}
-use Rattle.promises.proofs.History.Recovered.{inv-open, rest}
+use Rattle.promises.proofs.History.Accepted.{formed-cap, Ups, Views, after, Formed, formed-append, ok-from, walkAt, step-updates, step-pages}
+use Rattle.promises.proofs.History.Recovered.{invariant-open, rest}
 use Rattle.promises.proofs.History.Whole.{Kept, Runs, dirtyOf, count-dirty}
 
 pub last-keepFrom : (history : List LogBlock) → 0 < length history → getD history (length history - 1) noBlock .keepFrom ≡ lastKeep history
@@ -48,14 +48,14 @@ walk-pages : (F P j m : ℕ) (home : ℕ → List ℕ) (bs : List LogBlock) (v :
 unfolding walk
 walk-pages F P j m home [] v ts f a b = b
 walk-pages F P j m home (x ∷ bs) v ts f a b = walk-pages F P (suc j) (m + isCommit (x .kind)) home bs (walkBlock home j (x .kind) v) (after j (x .kind) ts) (f .1)
-    (step-ups F P j m (x .ticket) home (x .kind) v ts (f .0) a) (step-pages P j home (x .kind) v a b)
+    (step-updates F P j m (x .ticket) home (x .kind) v ts (f .0) a) (step-pages P j home (x .kind) v a b)
 
 -- all first groups are at least k
-pub oldest-ge : (k d : ℕ) (home : ℕ → List ℕ) (es : List DirtyPage) → Distinct es → ((p : ℕ) (e : DirtyPage) → lookUp p es ≡ at e → k ≤ e .first) → k ≤ d → k ≤ keepFromOf d es
+pub keepFrom-ge : (k d : ℕ) (home : ℕ → List ℕ) (es : List DirtyPage) → Distinct es → ((p : ℕ) (e : DirtyPage) → lookUp p es ≡ at e → k ≤ e .first) → k ≤ d → k ≤ keepFromOf d es
 unfolding keepFromOf lookUp
-oldest-ge k d home [] u g h = h
-oldest-ge k d home (e ∷ es) u g h = min-or (λ n. k ≤ n) (e .first) (keepFromOf d es) (g (e .page) e (look-head e es))
-    (oldest-ge k d home es (u .1) (λ p x q. by-eq p (e .page)
+keepFrom-ge k d home [] u g h = h
+keepFrom-ge k d home (e ∷ es) u g h = min-or (λ n. k ≤ n) (e .first) (keepFromOf d es) (g (e .page) e (lookUp-head e es))
+    (keepFrom-ge k d home es (u .1) (λ p x q. by-eq p (e .page)
     (λ y. let c : _≡_ {A = Found} absent (at x) = sym (u .0) ∙ ap (λ (n : ℕ). lookUp n es) (sym y) ∙ q in let n : _≡_ {A = ℕ} 0 1 = cc in absurd (omega arith))
     (λ n. g p x (simp (ne-eqb _ _ n) q))) h)
 
@@ -100,12 +100,12 @@ module _ (z : Sizes) (log : List Slot) (home : ℕ → List ℕ) (b : Book) (his
         rw (k .holds .recent (length history) (omega arith) (omega arith) (omega arith)) at (newest-ge log (length history % z .N)),
       )
 
-  pub reads-is : gathered (z .N) log ≡ blocks bs
-  reads-is = go (k .disk .keepFrom)
+  pub gathered-is : gathered (z .N) log ≡ blocks bs
+  gathered-is = go (k .disk .keepFrom)
     where
       go : Keep history (b .m) → gathered (z .N) log ≡ blocks (drop (lastKeep history - 1) history)
-      go (empty e m) = rw (e, drop-nil) (reads-none (z .N) log (subst (Holds (z .N) log) e (k .holds)))
-      go (from g) = reads-hist (z .N) log history (lastKeep history) (k .holds) (omega (arith, begins-le g)) (last-keepFrom history (omega (arith, begins-le g))) (begins-le g .0) (begins-le g .1) (omega (arith, k .roomy))
+      go (empty e m) = rw (e, drop-nil) (gathered-none (z .N) log (subst (Holds (z .N) log) e (k .holds)))
+      go (from g) = gathered-history (z .N) log history (lastKeep history) (k .holds) (omega (arith, begins-le g)) (last-keepFrom history (omega (arith, begins-le g))) (begins-le g .0) (begins-le g .1) (omega (arith, k .roomy))
 
   keepFrom-is : newest log + 1 - length bs ≡ kf
   keepFrom-is = go (k .disk .keepFrom)
@@ -126,10 +126,10 @@ module _ (z : Sizes) (log : List Slot) (home : ℕ → List ℕ) (b : Book) (his
           (ok-from (z .F) (lastKeep history) (z .P) (lastKeep history) (0 + commits (g .pre)) home (g .block) (g .post) (view (g .pre)) (g .begins)
           (λ p. subst (λ (n : ℕ). Below n (view (g .pre) p .page)) (g .place) (below-track p 1 (g .pre) noView (omega arith) (omega arith) Below.none))
           (subst (λ (n : ℕ). Formed (z .F) (z .P) n (0 + commits (g .pre)) (view (g .pre)) (g .block ∷ g .post)) (g .place)
-          (formed-app (z .F) (z .P) 1 0 (λ p. noView) (g .pre) (g .block ∷ g .post) (subst (λ (x : List LogBlock). Formed (z .F) (z .P) 1 0 (λ p. noView) x) (g .split) (k .formed)))))
+          (formed-append (z .F) (z .P) 1 0 (λ p. noView) (g .pre) (g .block ∷ g .post) (subst (λ (x : List LogBlock). Formed (z .F) (z .P) 1 0 (λ p. noView) x) (g .split) (k .formed)))))
 
   alive-now : Alive history home (recover home history) (gone b)
-  alive-now = inv-open (record { history = history; home = home; live = down }) b (k .disk)
+  alive-now = invariant-open (record { history = history; home = home; live = down }) b (k .disk)
 
   pages-now : Pages (z .P) (vw .dirtyPages)
   pages-now = go (k .disk .keepFrom)
@@ -139,7 +139,7 @@ module _ (z : Sizes) (log : List Slot) (home : ℕ → List ℕ) (b : Book) (his
       go (from g) = rw (rest history (b .m) (lastKeep history) g)
           (walk-pages (z .F) (z .P) (lastKeep history) (0 + commits (g .pre)) home (g .block ∷ g .post) (walkAt (g .block .ticket)) (view (g .pre))
           (subst (λ (n : ℕ). Formed (z .F) (z .P) n (0 + commits (g .pre)) (view (g .pre)) (g .block ∷ g .post)) (g .place)
-          (formed-app (z .F) (z .P) 1 0 (λ p. noView) (g .pre) (g .block ∷ g .post) (subst (λ (x : List LogBlock). Formed (z .F) (z .P) 1 0 (λ p. noView) x) (g .split) (k .formed)))) tt tt)
+          (formed-append (z .F) (z .P) 1 0 (λ p. noView) (g .pre) (g .block ∷ g .post) (subst (λ (x : List LogBlock). Formed (z .F) (z .P) 1 0 (λ p. noView) x) (g .split) (k .formed)))) tt tt)
 
   pub fitting : length history + 1 - keepFromOf (length history + 1) (vw .dirtyPages) + length (vw .dirtyPages) ≤ z .N
   unfolding recover
@@ -147,7 +147,7 @@ module _ (z : Sizes) (log : List Slot) (home : ℕ → List ℕ) (b : Book) (his
       let a : Alive history home (recover home history) (gone b) = alive-now in
       let cd : tally (z .P) (dirtyOf history) ≡ length (vw .dirtyPages) = count-dirty z home (gone b) history (recover home history) a pages-now in
       let kl : kf ≤ length history + 1 = kf-le (k .disk .keepFrom) in
-      let o : kf ≤ keepFromOf (length history + 1) (vw .dirtyPages) = oldest-ge kf (length history + 1) home (vw .dirtyPages) (a .distinct) (λ p e q. first-ge (k .disk .least p) (a .sees p) e q) kl in
+      let o : kf ≤ keepFromOf (length history + 1) (vw .dirtyPages) = keepFrom-ge kf (length history + 1) home (vw .dirtyPages) (a .distinct) (λ p e q. first-ge (k .disk .least p) (a .sees p) e q) kl in
       omega (arith, k .roomy, cd, o)
     where
       kf-le : Keep history (b .m) → lastKeep history ≤ length history + 1

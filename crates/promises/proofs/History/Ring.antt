@@ -61,15 +61,15 @@ holds-store N log history b z h =
     }
 
 -- Open gathers the history from k on
-pub gather-hist : (N : ℕ) (log : List Slot) (history : List LogBlock) → Holds N log history → (n j : ℕ) → 0 < j → j + n ≡ length history + 1 → length history < j + N
+pub gather-history : (N : ℕ) (log : List Slot) (history : List LogBlock) → Holds N log history → (n j : ℕ) → 0 < j → j + n ≡ length history + 1 → length history < j + N
     → gather N log n j ≡ blocks (drop (j - 1) history)
 unfolding gather
-gather-hist N log history h zero j z e l =
+gather-history N log history h zero j z e l =
     let q : j - 1 ≡ length history = omega arith in
     ap blocks (sym (ap (λ (n : ℕ). drop n history) q ∙ drop-length history))
-gather-hist N log history h (suc n) j z e l =
+gather-history N log history h (suc n) j z e l =
     let q : suc (j - 1) ≡ suc j - 1 = omega arith in
-    rw (h .recent j z (omega arith) l, gather-hist N log history h n (suc j) (omega arith) (omega arith) (omega arith))
+    rw (h .recent j z (omega arith) l, gather-history N log history h n (suc j) (omega arith) (omega arith) (omega arith))
     (simp (eq-eqb j j refl) (ap blocks (sym (drop-cons history (j - 1) noBlock (omega arith) ∙ ap (λ (n : ℕ). getD history (j - 1) noBlock ∷ drop n history) q))))
 
 pub newest-le : (n : ℕ) (log : List Slot) → ((i : ℕ) → Past n (getD log i unused)) → newest log ≤ n
@@ -109,16 +109,16 @@ allUnused-some (x ∷ log) (suc i) s b e = rw (allUnused-some log i s b e) (go (
     go false = refl
 
 -- OPEN READS THE HISTORY FROM KEEP-FROM ON
-pub reads-none : (N : ℕ) (log : List Slot) → Holds N log [] → gathered N log ≡ blocks []
+pub gathered-none : (N : ℕ) (log : List Slot) → Holds N log [] → gathered N log ≡ blocks []
 unfolding gathered
-reads-none N log h = simp (allUnused-none log (h .past))
+gathered-none N log h = simp (allUnused-none log (h .past))
 
-pub reads-hist : (N : ℕ) (log : List Slot) (history : List LogBlock) (k : ℕ) → Holds N log history → 0 < length history → getD history (length history - 1) noBlock .keepFrom ≡ k
+pub gathered-history : (N : ℕ) (log : List Slot) (history : List LogBlock) (k : ℕ) → Holds N log history → 0 < length history → getD history (length history - 1) noBlock .keepFrom ≡ k
     → 0 < k → k ≤ length history → length history < k + N → gathered N log ≡ blocks (drop (k - 1) history)
 unfolding gathered
-reads-hist N log history k h z e k1 k2 k3 =
+gathered-history N log history k h z e k1 k2 k3 =
     let m : ℕ = length history in
     let r : getD log (m % N) unused ≡ valid m (getD history (m - 1) noBlock) = h .recent m z (omega arith) (omega arith) in
     let nw : newest log ≡ m = omega (arith, newest-le m log (h .past), rw r at (newest-ge log (m % N))) in
     simp (allUnused-some log (m % N) m _ r, ne-eqb (length history) 0 (omega arith), nw, r, e)
-    (gather-hist N log history h (m + 1 - k) k k1 (omega arith) k3)
+    (gather-history N log history h (m + 1 - k) k k1 (omega arith) k3)

@@ -21,10 +21,10 @@ pub data Sees (h : List ℕ) : Found → Page → Type 0 where
   clear : Sees h absent tidy
   held : {e : DirtyPage} {us : List Update} → e .bytes ≡ redo us h → Sees h (at e) (dirty (e .first) us)
 
-pub redo-app : (us vs : List Update) (h : List ℕ) → redo (us ++ vs) h ≡ redo vs (redo us h)
+pub redo-append : (us vs : List Update) (h : List ℕ) → redo (us ++ vs) h ≡ redo vs (redo us h)
 unfolding redo
-redo-app [] vs h = refl
-redo-app (u ∷ us) vs h = redo-app us vs (put u h)
+redo-append [] vs h = refl
+redo-append (u ∷ us) vs h = redo-append us vs (put u h)
 
 -- two numbers are the same or not
 pub by-eq {ℓ} : {X : Type ℓ} (a b : ℕ) → (a ≡ b → X) → ((a ≡ b → ⊥) → X) → X
@@ -33,7 +33,7 @@ by-eq a b f g = elim (ℕ-discrete a b) [ yes e ↦ f e | no n ↦ g n ]
 held-more : (s : ℕ) (u : Update) (h : List ℕ) (x : DirtyPage) (c : Page) → Sees h (at x) c
     → Sees h (at (record { page = x .page; first = x .first; bytes = put u (x .bytes) })) (committedOver s (u ∷ []) c)
 unfolding committedOver redo
-held-more s u h x c (held {us = us} q) = held (ap (put u) q ∙ sym (redo-app us (u ∷ []) h))
+held-more s u h x c (held {us = us} q) = held (ap (put u) q ∙ sym (redo-append us (u ∷ []) h))
 
 fresh : (s : ℕ) (u : Update) (h h′ : List ℕ) (c : Page) → h ≡ h′ → Sees h absent c
     → Sees h (at (record { page = u .page; first = s; bytes = put u h′ })) (committedOver s (u ∷ []) c)
@@ -41,40 +41,40 @@ unfolding committedOver redo
 fresh s u h h′ c e clear = held (ap (put u) (sym e))
 
 -- one update
-look-mine : (s : ℕ) (home : ℕ → List ℕ) (u : Update) (p : ℕ) (es : List DirtyPage) (c : Page) → p ≡ u .page → Sees (home p) (lookUp p es) c
+lookUp-ofPage : (s : ℕ) (home : ℕ → List ℕ) (u : Update) (p : ℕ) (es : List DirtyPage) (c : Page) → p ≡ u .page → Sees (home p) (lookUp p es) c
     → Sees (home p) (lookUp p (apply s home u es)) (committedOver s (u ∷ []) c)
 unfolding lookUp apply
-look-mine s home u p [] c e m = simp (eq-eqb _ _ e) (fresh s u (home p) (home (u .page)) c (ap home e) m)
-look-mine s home u p (x ∷ es) c e m = by-eq (u .page) (x .page)
+lookUp-ofPage s home u p [] c e m = simp (eq-eqb _ _ e) (fresh s u (home p) (home (u .page)) c (ap home e) m)
+lookUp-ofPage s home u p (x ∷ es) c e m = by-eq (u .page) (x .page)
     (λ f. let f′ : p ≡ x .page = e ∙ f in simp (eq-eqb _ _ f, eq-eqb _ _ f′) (held-more s u (home p) x c (simp (eq-eqb _ _ f′) at m)))
-    (λ n. let n′ : p ≡ x .page → ⊥ = λ q. n (sym e ∙ q) in simp (ne-eqb _ _ n, ne-eqb _ _ n′) (look-mine s home u p es c e (simp (ne-eqb _ _ n′) at m)))
+    (λ n. let n′ : p ≡ x .page → ⊥ = λ q. n (sym e ∙ q) in simp (ne-eqb _ _ n, ne-eqb _ _ n′) (lookUp-ofPage s home u p es c e (simp (ne-eqb _ _ n′) at m)))
 
-pub look-other : (s : ℕ) (home : ℕ → List ℕ) (u : Update) (p : ℕ) (es : List DirtyPage) → (p ≡ u .page → ⊥) → lookUp p (apply s home u es) ≡ lookUp p es
+pub lookUp-other : (s : ℕ) (home : ℕ → List ℕ) (u : Update) (p : ℕ) (es : List DirtyPage) → (p ≡ u .page → ⊥) → lookUp p (apply s home u es) ≡ lookUp p es
 unfolding lookUp apply
-look-other s home u p [] n = simp (ne-eqb _ _ n)
-look-other s home u p (x ∷ es) n = by-eq (u .page) (x .page)
+lookUp-other s home u p [] n = simp (ne-eqb _ _ n)
+lookUp-other s home u p (x ∷ es) n = by-eq (u .page) (x .page)
     (λ f. let n′ : p ≡ x .page → ⊥ = λ q. n (q ∙ sym f) in simp (eq-eqb _ _ f, ne-eqb _ _ n′))
-    (λ g. simp (ne-eqb _ _ g, look-other s home u p es n))
+    (λ g. simp (ne-eqb _ _ g, lookUp-other s home u p es n))
 
-pub look-without-same : (p : ℕ) (es : List DirtyPage) → lookUp p (without p es) ≡ absent
+pub lookUp-without-same : (p : ℕ) (es : List DirtyPage) → lookUp p (without p es) ≡ absent
 unfolding lookUp without
-look-without-same p [] = refl
-look-without-same p (x ∷ es) = by-eq p (x .page)
-    (λ e. simp (eq-eqb _ _ e) (look-without-same p es))
-    (λ n. simp (ne-eqb _ _ n) (look-without-same p es))
+lookUp-without-same p [] = refl
+lookUp-without-same p (x ∷ es) = by-eq p (x .page)
+    (λ e. simp (eq-eqb _ _ e) (lookUp-without-same p es))
+    (λ n. simp (ne-eqb _ _ n) (lookUp-without-same p es))
 
-pub look-without-other : (p q : ℕ) (es : List DirtyPage) → (p ≡ q → ⊥) → lookUp p (without q es) ≡ lookUp p es
+pub lookUp-without-other : (p q : ℕ) (es : List DirtyPage) → (p ≡ q → ⊥) → lookUp p (without q es) ≡ lookUp p es
 unfolding lookUp without
-look-without-other p q [] n = refl
-look-without-other p q (x ∷ es) n = by-eq q (x .page)
-    (λ e. let n′ : p ≡ x .page → ⊥ = λ f. n (f ∙ sym e) in simp (eq-eqb _ _ e, ne-eqb _ _ n′) (look-without-other p q es n))
-    (λ g. simp (ne-eqb _ _ g, look-without-other p q es n))
+lookUp-without-other p q [] n = refl
+lookUp-without-other p q (x ∷ es) n = by-eq q (x .page)
+    (λ e. let n′ : p ≡ x .page → ⊥ = λ f. n (f ∙ sym e) in simp (eq-eqb _ _ e, ne-eqb _ _ n′) (lookUp-without-other p q es n))
+    (λ g. simp (ne-eqb _ _ g, lookUp-without-other p q es n))
 
-bump-cons : (s : ℕ) (u : Update) (us : List Update) (c : Page) → committedOver s (u ∷ us) c ≡ committedOver s us (committedOver s (u ∷ []) c)
+committed-cons : (s : ℕ) (u : Update) (us : List Update) (c : Page) → committedOver s (u ∷ us) c ≡ committedOver s us (committedOver s (u ∷ []) c)
 unfolding committedOver
-bump-cons s u [] c = refl
-bump-cons s u (v ∷ us) tidy = refl
-bump-cons s u (v ∷ us) (dirty f vs) = ap (dirty f) (sym (append-assoc vs (u ∷ []) (v ∷ us)))
+committed-cons s u [] c = refl
+committed-cons s u (v ∷ us) tidy = refl
+committed-cons s u (v ∷ us) (dirty f vs) = ap (dirty f) (sym (append-assoc vs (u ∷ []) (v ∷ us)))
 
 -- a group's updates
 pub sees-all : (s : ℕ) (home : ℕ → List ℕ) (p : ℕ) (us : List Update) (es : List DirtyPage) (c : Page) → Sees (home p) (lookUp p es) c
@@ -82,13 +82,13 @@ pub sees-all : (s : ℕ) (home : ℕ → List ℕ) (p : ℕ) (us : List Update) 
 unfolding applyAll ofPage committedOver
 sees-all s home p [] es c m = m
 sees-all s home p (u ∷ us) es c m = by-eq p (u .page)
-    (λ e. simp (eq-eqb _ _ e) (rw (bump-cons s u (ofPage p us) c) (sees-all s home p us (apply s home u es) (committedOver s (u ∷ []) c) (look-mine s home u p es c e m))))
-    (λ n. simp (ne-eqb _ _ n) (sees-all s home p us (apply s home u es) c (rw (look-other s home u p es n) m)))
+    (λ e. simp (eq-eqb _ _ e) (rw (committed-cons s u (ofPage p us) c) (sees-all s home p us (apply s home u es) (committedOver s (u ∷ []) c) (lookUp-ofPage s home u p es c e m))))
+    (λ n. simp (ne-eqb _ _ n) (sees-all s home p us (apply s home u es) c (rw (lookUp-other s home u p es n) m)))
 
 pub sees-without : (h : List ℕ) (p q : ℕ) (es : List DirtyPage) (c : Page) → Sees h (lookUp p es) c → Sees h (lookUp p (without q es)) (cond (eqb p q) tidy c)
 sees-without h p q es c m = by-eq p q
-    (λ e. simp (eq-eqb _ _ e) (rw (sym e, look-without-same) clear))
-    (λ n. simp (ne-eqb _ _ n, look-without-other p q es n) m)
+    (λ e. simp (eq-eqb _ _ e) (rw (sym e, lookUp-without-same) clear))
+    (λ n. simp (ne-eqb _ _ n, lookUp-without-other p q es n) m)
 
 -- ---- the walk, block by block
 pub record Tells (home : ℕ → List ℕ) (p : ℕ) (v : Walk) (t : View) : Type 0 where

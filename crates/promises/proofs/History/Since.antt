@@ -29,11 +29,11 @@ pub record Sim (k : ℕ) (t s : View) : Type 0 where
   pub start : t .start ≡ s .start
   pub page : Same k (t .page) (s .page)
 
-same-bump : {k : ℕ} (s : ℕ) (us : List Update) {c d : Page} → Same k c d → Same k (committedOver s us c) (committedOver s us d)
+same-committed : {k : ℕ} (s : ℕ) (us : List Update) {c d : Page} → Same k c d → Same k (committedOver s us c) (committedOver s us d)
 unfolding committedOver
-same-bump s us same = same
-same-bump s [] (stale h) = stale h
-same-bump s (u ∷ us) (stale h) = stale h
+same-committed s us same = same
+same-committed s [] (stale h) = stale h
+same-committed s (u ∷ us) (stale h) = stale h
 
 same-cond : {k : ℕ} (b : Bool) {c d : Page} → Same k c d → Same k (cond b tidy c) (cond b tidy d)
 same-cond true m = same
@@ -47,7 +47,7 @@ sim-step {k} p j (update i u) t s m = go (eqb i 1)
         (cond b (record { group = u ∷ []; start = j; page = s .page }) (record { group = s .group ++ (u ∷ []); start = s .start; page = s .page }))
     go true = record { group = refl; start = refl; page = m .page }
     go false = record { group = ap (λ (l : List Update). l ++ (u ∷ [])) (m .group); start = m .start; page = m .page }
-sim-step {k} p j (commit n) t s m = record { group = refl; start = refl; page = rw (m .group, m .start) (same-bump (s .start) (ofPage p (s .group)) (m .page)) }
+sim-step {k} p j (commit n) t s m = record { group = refl; start = refl; page = rw (m .group, m .start) (same-committed (s .start) (ofPage p (s .group)) (m .page)) }
 sim-step p j (clean q) t s m = record { group = refl; start = refl; page = same-cond (eqb p q) (m .page) }
 
 sim-track : {k : ℕ} (p j : ℕ) (bs : List LogBlock) (t s : View) → Sim k t s → Sim k (viewFrom p j bs t) (viewFrom p j bs s)
@@ -74,10 +74,10 @@ unfolding viewBlock
 sim-begin p j (update i u) t first l = record { group = refl; start = refl; page = below-same l }
 sim-begin p j (clean q) t cleans l = record { group = refl; start = refl; page = same-cond (eqb p q) (below-same l) }
 
-pub track-app : (p j : ℕ) (xs ys : List LogBlock) (t : View) → viewFrom p j (xs ++ ys) t ≡ viewFrom p (length xs + j) ys (viewFrom p j xs t)
+pub track-append : (p j : ℕ) (xs ys : List LogBlock) (t : View) → viewFrom p j (xs ++ ys) t ≡ viewFrom p (length xs + j) ys (viewFrom p j xs t)
 unfolding viewFrom
-track-app p j [] ys t = simp zero-add
-track-app p j (x ∷ xs) ys t = track-app p (suc j) xs ys (viewBlock p j (x .kind) t) ∙ ap (λ (n : ℕ). viewFrom p n ys (viewFrom p (suc j) xs (viewBlock p j (x .kind) t))) (omega arith)
+track-append p j [] ys t = simp zero-add
+track-append p j (x ∷ xs) ys t = track-append p (suc j) xs ys (viewBlock p j (x .kind) t) ∙ ap (λ (n : ℕ). viewFrom p n ys (viewFrom p (suc j) xs (viewBlock p j (x .kind) t))) (omega arith)
 
 same-end : {k : ℕ} {c d : Page} → AtLeast k c → Same k c d → c ≡ d
 same-end none same = refl
@@ -92,7 +92,7 @@ pub from-keepFrom : (p k : ℕ) (xs : List LogBlock) (b : LogBlock) (ys : List L
 unfolding viewFrom
 from-keepFrom p k xs b ys e g l m =
     let r : Sim k (viewFrom p (suc k) ys (viewBlock p k (b .kind) (viewFrom p 1 xs noView))) (viewFrom p (suc k) ys (viewBlock p k (b .kind) noView)) = sim-track p (suc k) ys _ _ (sim-begin p k (b .kind) (viewFrom p 1 xs noView) g l) in
-    let q : viewFrom p 1 (xs ++ (b ∷ ys)) noView ≡ viewFrom p (suc k) ys (viewBlock p k (b .kind) (viewFrom p 1 xs noView)) = track-app p 1 xs (b ∷ ys) noView ∙ ap (λ (n : ℕ). viewFrom p n (b ∷ ys) (viewFrom p 1 xs noView)) e in
+    let q : viewFrom p 1 (xs ++ (b ∷ ys)) noView ≡ viewFrom p (suc k) ys (viewBlock p k (b .kind) (viewFrom p 1 xs noView)) = track-append p 1 xs (b ∷ ys) noView ∙ ap (λ (n : ℕ). viewFrom p n (b ∷ ys) (viewFrom p 1 xs noView)) e in
     rw q (same-end (rw q at m) (r .page))
 
 -- each first group lies before the next block
@@ -100,11 +100,11 @@ below-up : {j : ℕ} {c : Page} → Below j c → Below (suc j) c
 below-up none = Below.none
 below-up (some {f = f} h) = Below.some {f = f} (omega arith)
 
-below-bump : {j : ℕ} (s : ℕ) (us : List Update) (c : Page) → s < j → Below j c → Below j (committedOver s us c)
+below-committed : {j : ℕ} (s : ℕ) (us : List Update) (c : Page) → s < j → Below j c → Below j (committedOver s us c)
 unfolding committedOver
-below-bump s [] c h b = b
-below-bump s (u ∷ us) tidy h b = Below.some h
-below-bump s (u ∷ us) (dirty f vs) h (some g) = Below.some g
+below-committed s [] c h b = b
+below-committed s (u ∷ us) tidy h b = Below.some h
+below-committed s (u ∷ us) (dirty f vs) h (some g) = Below.some g
 
 below-cond : {j : ℕ} (b : Bool) (c : Page) → Below j c → Below j (cond b tidy c)
 below-cond true c h = Below.none
@@ -113,7 +113,7 @@ below-cond false c h = h
 below-step : (p j : ℕ) (b : Kind) (t : View) → 0 < j → t .start < j → Below j (t .page) → (viewBlock p j b t .start < suc j) × Below (suc j) (viewBlock p j b t .page)
 unfolding viewBlock
 below-step p j (update i u) t z s h = by-eq i 1 (λ e. simp (eq-eqb _ _ e) (omega arith, below-up h)) (λ n. simp (ne-eqb _ _ n) (omega arith, below-up h))
-below-step p j (commit n) t z s h = (omega arith, below-bump (t .start) (ofPage p (t .group)) (t .page) (omega arith) (below-up h))
+below-step p j (commit n) t z s h = (omega arith, below-committed (t .start) (ofPage p (t .group)) (t .page) (omega arith) (below-up h))
 below-step p j (clean q) t z s h = (omega arith, below-cond (eqb p q) (t .page) (below-up h))
 
 pub below-track : (p j : ℕ) (bs : List LogBlock) (t : View) → 0 < j → t .start < j → Below j (t .page) → Below (length bs + j) (viewFrom p j bs t .page)

@@ -68,10 +68,10 @@ unfolding tally
 tally-zero zero = refl
 tally-zero (suc n) = omega (arith, tally-zero n)
 
-pub tally-look : (P : ℕ) (es : List DirtyPage) → Distinct es → Pages P es → tally P (λ p. here (lookUp p es)) ≡ length es
+pub tally-lookUp : (P : ℕ) (es : List DirtyPage) → Distinct es → Pages P es → tally P (λ p. here (lookUp p es)) ≡ length es
 unfolding lookUp
-tally-look P [] d b = tally-zero P
-tally-look P (e ∷ es) d b = tally-same P _ _ (λ p. here-cons p e es (d .0)) ∙ tally-add P _ _ ∙ omega (arith, tally-one P (e .page) (b .0), tally-look P es (d .1) (b .1))
+tally-lookUp P [] d b = tally-zero P
+tally-lookUp P (e ∷ es) d b = tally-same P _ _ (λ p. here-cons p e es (d .0)) ∙ tally-add P _ _ ∙ omega (arith, tally-one P (e .page) (b .0), tally-lookUp P es (d .1) (b .1))
 
 abbrev pub isDirty : Page → ℕ
 isDirty tidy = 0

@@ -16,7 +16,7 @@ use Rattle.promises.specs.Updates.{ofPage}
 use Rattle.promises.proofs.History.Machine.{lastKeep}
 use Rattle.promises.specs.DirtyPages.{DirtyPage, Found, absent, at, lookUp, apply, applyAll, without, keepFromOf}
 use Rattle.promises.proofs.History.Since.{AtLeast, Below}
-use Rattle.promises.proofs.History.Sees.{Sees, clear, held, by-eq, look-without-same, look-without-other, look-other}
+use Rattle.promises.proofs.History.Sees.{Sees, clear, held, by-eq, lookUp-without-same, lookUp-without-other, lookUp-other}
 
 abbrev pub isCommit : Kind → ℕ
 isCommit (update i u) = 0
@@ -27,9 +27,9 @@ abbrev pub commits : List LogBlock → ℕ
 commits [] = 0
 commits (b ∷ bs) = isCommit (b .kind) + commits bs
 
-pub commits-app : (xs ys : List LogBlock) → commits (xs ++ ys) ≡ commits xs + commits ys
-commits-app [] ys = sym (zero-add _)
-commits-app (x ∷ xs) ys = omega (arith, commits-app xs ys)
+pub commits-append : (xs ys : List LogBlock) → commits (xs ++ ys) ≡ commits xs + commits ys
+commits-append [] ys = sym (zero-add _)
+commits-append (x ∷ xs) ys = omega (arith, commits-append xs ys)
 
 -- block f begins a walk, and the tickets from there on add up to m
 pub record BeginsAt (history : List LogBlock) (m f : ℕ) : Type 0 where
@@ -41,15 +41,15 @@ pub record BeginsAt (history : List LogBlock) (m f : ℕ) : Type 0 where
   pub begins : Begins (block .kind)
   pub tick : block .ticket + commits (block ∷ post) ≡ m
 
-pub begins-app : {history : List LogBlock} {m f : ℕ} (b : LogBlock) → BeginsAt history m f → BeginsAt (history ++ (b ∷ [])) (m + isCommit (b .kind)) f
-begins-app b g = record {
+pub begins-append : {history : List LogBlock} {m f : ℕ} (b : LogBlock) → BeginsAt history m f → BeginsAt (history ++ (b ∷ [])) (m + isCommit (b .kind)) f
+begins-append b g = record {
   pre = g .pre;
   block = g .block;
   post = g .post ++ (b ∷ []);
   split = ap (λ (l : List LogBlock). l ++ (b ∷ [])) (g .split) ∙ append-assoc (g .pre) (g .block ∷ g .post) (b ∷ []);
   place = g .place;
   begins = g .begins;
-  tick = omega (arith, commits-app (g .post) (b ∷ []), g .tick);
+  tick = omega (arith, commits-append (g .post) (b ∷ []), g .tick);
 }
 
 pub begins-last : (history : List LogBlock) (m : ℕ) (b : LogBlock) → Begins (b .kind) → b .ticket + isCommit (b .kind) ≡ m → BeginsAt (history ++ (b ∷ [])) m (length history + 1)
@@ -67,9 +67,9 @@ Good history m (at e) = BeginsAt history m (e .first)
 pub min-or : (P : ℕ → Type 0) (a b : ℕ) → P a → P b → P (min a b)
 min-or P a b x y = elim (decLe a b) [ yes h ↦ subst P (omega arith) x | no h ↦ subst P (omega arith) y ]
 
-pub look-head : (e : DirtyPage) (es : List DirtyPage) → lookUp (e .page) (e ∷ es) ≡ at e
+pub lookUp-head : (e : DirtyPage) (es : List DirtyPage) → lookUp (e .page) (e ∷ es) ≡ at e
 unfolding lookUp
-look-head e es = simp (eq-eqb (e .page) (e .page) refl)
+lookUp-head e es = simp (eq-eqb (e .page) (e .page) refl)
 
 good-tail : (history : List LogBlock) (m : ℕ) (e : DirtyPage) (es : List DirtyPage) → lookUp (e .page) es ≡ absent → ((p : ℕ) → Good history m (lookUp p (e ∷ es))) → (p : ℕ) → Good history m (lookUp p es)
 unfolding lookUp
@@ -77,25 +77,25 @@ good-tail history m e es d g p = by-eq p (e .page)
     (λ q. rw (q, d) tt)
     (λ n. simp (ne-eqb _ _ n) at (g p))
 
-pub oldest-begins : (history : List LogBlock) (m d : ℕ) (es : List DirtyPage) → Distinct es → ((p : ℕ) → Good history m (lookUp p es)) → BeginsAt history m d → BeginsAt history m (keepFromOf d es)
+pub keepFrom-begins : (history : List LogBlock) (m d : ℕ) (es : List DirtyPage) → Distinct es → ((p : ℕ) → Good history m (lookUp p es)) → BeginsAt history m d → BeginsAt history m (keepFromOf d es)
 unfolding keepFromOf
-oldest-begins history m d [] u g b = b
-oldest-begins history m d (e ∷ es) u g b = min-or (BeginsAt history m) (e .first) (keepFromOf d es)
-    (rw (look-head e es) at (g (e .page)))
-    (oldest-begins history m d es (u .1) (good-tail history m e es (u .0) g) b)
+keepFrom-begins history m d [] u g b = b
+keepFrom-begins history m d (e ∷ es) u g b = min-or (BeginsAt history m) (e .first) (keepFromOf d es)
+    (rw (lookUp-head e es) at (g (e .page)))
+    (keepFrom-begins history m d es (u .1) (good-tail history m e es (u .0) g) b)
 
-pub oldest-le : (d : ℕ) (es : List DirtyPage) → keepFromOf d es ≤ d
+pub keepFrom-le : (d : ℕ) (es : List DirtyPage) → keepFromOf d es ≤ d
 unfolding keepFromOf
-oldest-le d [] = omega arith
-oldest-le d (e ∷ es) = omega (arith, oldest-le d es)
+keepFrom-le d [] = omega arith
+keepFrom-le d (e ∷ es) = omega (arith, keepFrom-le d es)
 
 -- keepFrom-from is at most each page's first group
-pub oldest-least : (h : List ℕ) (d p : ℕ) (es : List DirtyPage) (c : Page) → Sees h (lookUp p es) c → AtLeast (keepFromOf d es) c
+pub keepFrom-least : (h : List ℕ) (d p : ℕ) (es : List DirtyPage) (c : Page) → Sees h (lookUp p es) c → AtLeast (keepFromOf d es) c
 unfolding keepFromOf lookUp
-oldest-least h d p [] c clear = AtLeast.none
-oldest-least h d p (e ∷ es) c m = by-eq p (e .page)
+keepFrom-least h d p [] c clear = AtLeast.none
+keepFrom-least h d p (e ∷ es) c m = by-eq p (e .page)
     (λ q. head (simp (eq-eqb _ _ q) at m))
-    (λ n. lower (oldest-least h d p es c (simp (ne-eqb _ _ n) at m)))
+    (λ n. lower (keepFrom-least h d p es c (simp (ne-eqb _ _ n) at m)))
   where
     head : {c : Page} → Sees h (at e) c → AtLeast (min (e .first) (keepFromOf d es)) c
     head (held q) = AtLeast.some {f = e .first} (omega arith)
@@ -105,23 +105,23 @@ oldest-least h d p (e ∷ es) c m = by-eq p (e .page)
     lower (AtLeast.some {f = f} k) = AtLeast.some {f = f} (omega arith)
 
 -- ---- distinct pages stay so
-touch-absent : (s : ℕ) (home : ℕ → List ℕ) (u : Update) (q : ℕ) (es : List DirtyPage) → (q ≡ u .page → ⊥) → lookUp q es ≡ absent → lookUp q (apply s home u es) ≡ absent
-touch-absent s home u q es n d = look-other s home u q es n ∙ d
+apply-absent : (s : ℕ) (home : ℕ → List ℕ) (u : Update) (q : ℕ) (es : List DirtyPage) → (q ≡ u .page → ⊥) → lookUp q es ≡ absent → lookUp q (apply s home u es) ≡ absent
+apply-absent s home u q es n d = lookUp-other s home u q es n ∙ d
 
-pub distinct-touch : (s : ℕ) (home : ℕ → List ℕ) (u : Update) (es : List DirtyPage) → Distinct es → Distinct (apply s home u es)
+pub distinct-apply : (s : ℕ) (home : ℕ → List ℕ) (u : Update) (es : List DirtyPage) → Distinct es → Distinct (apply s home u es)
 unfolding apply lookUp
-distinct-touch s home u [] d = (refl, tt)
-distinct-touch s home u (e ∷ es) d = by-eq (u .page) (e .page)
+distinct-apply s home u [] d = (refl, tt)
+distinct-apply s home u (e ∷ es) d = by-eq (u .page) (e .page)
     (λ q. simp (eq-eqb _ _ q) (d .0, d .1))
-    (λ n. simp (ne-eqb _ _ n) (touch-absent s home u (e .page) es (λ q. n (sym q)) (d .0), distinct-touch s home u es (d .1)))
+    (λ n. simp (ne-eqb _ _ n) (apply-absent s home u (e .page) es (λ q. n (sym q)) (d .0), distinct-apply s home u es (d .1)))
 
 pub distinct-all : (s : ℕ) (home : ℕ → List ℕ) (us : List Update) (es : List DirtyPage) → Distinct es → Distinct (applyAll s home us es)
 unfolding applyAll
 distinct-all s home [] es d = d
-distinct-all s home (u ∷ us) es d = distinct-all s home us (apply s home u es) (distinct-touch s home u es d)
+distinct-all s home (u ∷ us) es d = distinct-all s home us (apply s home u es) (distinct-apply s home u es d)
 
 without-absent : (p q : ℕ) (es : List DirtyPage) → lookUp p es ≡ absent → lookUp p (without q es) ≡ absent
-without-absent p q es d = by-eq p q (λ e. rw (sym e) (look-without-same p es)) (λ n. look-without-other p q es n ∙ d)
+without-absent p q es d = by-eq p q (λ e. rw (sym e) (lookUp-without-same p es)) (λ n. lookUp-without-other p q es n ∙ d)
 
 pub distinct-without : (q : ℕ) (es : List DirtyPage) → Distinct es → Distinct (without q es)
 unfolding without

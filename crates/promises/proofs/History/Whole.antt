@@ -22,10 +22,10 @@ use Rattle.promises.proofs.History.Stored.{store}
 use Rattle.promises.specs.Blocks.{Slot}
 use Rattle.promises.proofs.History.Sizes.{Sizes}
 use Rattle.promises.proofs.History.Sees.{Sees, clear, by-eq}
-use Rattle.promises.proofs.History.WalkStart.{commits, isCommit, commits-app, lastKeep-snoc, Distinct, distinct-all}
-use Rattle.promises.proofs.History.Invariant.{view, view-snoc, Disk, Half, whole, part, Well, Wells, Alive, Inv, counted, inv-update, committed, inv-commit, inv-clean, inv-front, inv-back}
+use Rattle.promises.proofs.History.WalkStart.{commits, isCommit, commits-append, lastKeep-snoc, Distinct, distinct-all}
+use Rattle.promises.proofs.History.Invariant.{view, view-snoc, Disk, Half, whole, part, Well, Wells, Alive, Inv, counted, invariant-update, committed, invariant-commit, invariant-clean, invariant-front, invariant-back}
 use Rattle.promises.proofs.History.Ring.{Holds, holds-store}
-use Rattle.promises.proofs.History.Tally.{tally, tally-same, tally-look, here, Pages, isDirty, sees-here}
+use Rattle.promises.proofs.History.Tally.{tally, tally-same, tally-lookUp, here, Pages, isDirty, sees-here}
 use Rattle.promises.proofs.History.Accepted.{Ups, Formed, formed-snoc, Right, pages-all, pages-without}
 
 abbrev pub UpsQ : ℕ → List (List Update) → Type 0
@@ -51,12 +51,12 @@ pub record Runs (z : Sizes) (home : ℕ → List ℕ) (b : Book) (history : List
 
 -- D is the count of dirty pages
 pub count-dirty : (z : Sizes) (home : ℕ → List ℕ) (b : Book) (history : List LogBlock) (l : Live) → Alive history home l b → Pages (z .P) (l .dirtyPages) → tally (z .P) (dirtyOf history) ≡ length (l .dirtyPages)
-count-dirty z home b history l a pg = tally-same (z .P) (dirtyOf history) (λ p. here (lookUp p (l .dirtyPages))) (λ p. sym (sees-here (a .sees p))) ∙ tally-look (z .P) (l .dirtyPages) (a .distinct) pg
+count-dirty z home b history l a pg = tally-same (z .P) (dirtyOf history) (λ p. here (lookUp p (l .dirtyPages))) (λ p. sym (sees-here (a .sees p))) ∙ tally-lookUp (z .P) (l .dirtyPages) (a .distinct) pg
 
-ups-at : (P : ℕ) (g : List Update) (n : ℕ) → n < length g → Ups P g → getD g n noUpdate .page < P
-ups-at P [] n h a = absurd (omega arith)
-ups-at P (u ∷ g) zero h a = a .0
-ups-at P (u ∷ g) (suc n) h a = ups-at P g n (omega arith) (a .1)
+updates-at : (P : ℕ) (g : List Update) (n : ℕ) → n < length g → Ups P g → getD g n noUpdate .page < P
+updates-at P [] n h a = absurd (omega arith)
+updates-at P (u ∷ g) zero h a = a .0
+updates-at P (u ∷ g) (suc n) h a = updates-at P g n (omega arith) (a .1)
 
 -- the update that is stored next has the right index
 index-right : (history : List LogBlock) (m n : ℕ) (q : List (List Update)) → Half history m n q → (n + 1 ≡ 1) ⊎ ((0 < length (view history 0 .group)) × (n + 1 ≡ length (view history 0 .group) + 1))
@@ -87,22 +87,22 @@ module _ (z : Sizes) (log : List Slot) (home : ℕ → List ℕ) (b : Book) (his
       record {
         holds = holds-store (z .N) log history x big (k .holds);
         formed = formed-snoc (z .F) (z .P) 1 0 (λ p. noView) history x (k .formed) (subst (λ (n : ℕ). Right (z .F) (z .P) (length history + 1) n (view history) (x .kind) (x .ticket)) (omega (arith, k .total)) rt);
-        total = omega (arith, commits-app history (x ∷ []), k .total);
+        total = omega (arith, commits-append history (x ∷ []), k .total);
         roomy = rw (lastKeep-snoc history x) (omega (arith, rm, ln));
         disk = dk;
       }
 
-length-touch : (s : ℕ) (home : ℕ → List ℕ) (u : Update) (es : List DirtyPage) → length (apply s home u es) ≤ length es + 1
+length-apply : (s : ℕ) (home : ℕ → List ℕ) (u : Update) (es : List DirtyPage) → length (apply s home u es) ≤ length es + 1
 unfolding apply
-length-touch s home u [] = omega arith
-length-touch s home u (e ∷ es) = by-eq (u .page) (e .page)
+length-apply s home u [] = omega arith
+length-apply s home u (e ∷ es) = by-eq (u .page) (e .page)
     (λ q. simp (eq-eqb _ _ q) (omega arith))
-    (λ n. simp (ne-eqb _ _ n) (omega (arith, length-touch s home u es)))
+    (λ n. simp (ne-eqb _ _ n) (omega (arith, length-apply s home u es)))
 
 pub length-all : (s : ℕ) (home : ℕ → List ℕ) (us : List Update) (es : List DirtyPage) → length (applyAll s home us es) ≤ length es + length us
 unfolding applyAll
 length-all s home [] es = omega arith
-length-all s home (u ∷ us) es = omega (arith, length-all s home us (apply s home u es), length-touch s home u es)
+length-all s home (u ∷ us) es = omega (arith, length-all s home us (apply s home u es), length-apply s home u es)
 
 without-le : (q : ℕ) (es : List DirtyPage) → length (without q es) ≤ length es
 unfolding without
@@ -118,12 +118,12 @@ without-less q e (y ∷ es) f = by-eq q (y .page)
     (λ x. simp (eq-eqb _ _ x) (omega (arith, without-le q es)))
     (λ n. simp (ne-eqb _ _ n) (omega (arith, without-less q e es (simp (ne-eqb _ _ n) at f))))
 
-pub oldest-without : (d q : ℕ) (es : List DirtyPage) → keepFromOf d es ≤ keepFromOf d (without q es)
+pub keepFrom-without : (d q : ℕ) (es : List DirtyPage) → keepFromOf d es ≤ keepFromOf d (without q es)
 unfolding keepFromOf without
-oldest-without d q [] = omega arith
-oldest-without d q (e ∷ es) = by-eq q (e .page)
-    (λ x. simp (eq-eqb _ _ x) (omega (arith, oldest-without d q es)))
-    (λ n. simp (ne-eqb _ _ n) (omega (arith, oldest-without d q es)))
+keepFrom-without d q [] = omega arith
+keepFrom-without d q (e ∷ es) = by-eq q (e .page)
+    (λ x. simp (eq-eqb _ _ x) (omega (arith, keepFrom-without d q es)))
+    (λ n. simp (ne-eqb _ _ n) (omega (arith, keepFrom-without d q es)))
 
 -- what soundness says of a store that has a group to write
 pub record Room (z : Sizes) (n : ℕ) (l : Live) (g : List Update) : Type 0 where
@@ -145,12 +145,12 @@ module _ (z : Sizes) (log : List Slot) (home : ℕ → List ℕ) (b : Book) (his
       → Kept z (store (z .N) (length history + 1) (ublk g) log) home (counted b) (history ++ (ublk g ∷ [])) × Runs z home (counted b) (history ++ (ublk g ∷ [])) (length history + 2) ulive
   unfolding updateLogged
   kept-update g q e h rm =
-      let i : Inv (updateLogged w₁ l g) (counted b) = inv-update w₁ l b g q (k .disk) (r .alive) e h in
+      let i : Inv (updateLogged w₁ l g) (counted b) = invariant-update w₁ l b g q (k .disk) (r .alive) e h in
       let a : Alive (history ++ (ublk g ∷ [])) home ulive (counted b) = i .lives in
       let cd : tally (z .P) (dirtyOf (history ++ (ublk g ∷ []))) ≡ length (l .dirtyPages) = count-dirty z home (counted b) (history ++ (ublk g ∷ [])) ulive a (r .pages) in
       let pq : UpsQ (z .P) (g ∷ q) = rw e at (r .places) in (
         grown z log home b history l big k r (ublk g) (counted b) home
-            (index-right history (b .m) (l .count) (l .queue) (r .alive .half), ups-at (z .P) g (l .count) h (pq .0), r .alive .ticket)
+            (index-right history (b .m) (l .count) (l .queue) (r .alive .half), updates-at (z .P) g (l .count) h (pq .0), r .alive .ticket)
             (omega arith) (i .disk) (omega (arith, cd, rm .slots)),
         record { next = omega (arith, length-append history (ublk g ∷ [])); alive = a; pages = r .pages; places = r .places },
       )
@@ -166,7 +166,7 @@ module _ (z : Sizes) (log : List Slot) (home : ℕ → List ℕ) (b : Book) (his
       → Kept z (store (z .N) (length history + 1) (cblk g) log) home (committed b g q) (history ++ (cblk g ∷ [])) × Runs z home (committed b g q) (history ++ (cblk g ∷ [])) (length history + 2) (clive g q)
   unfolding commitLogged
   kept-commit g q e h rm =
-      let i : Inv (commitLogged w₁ l g q) (committed b g q) = inv-commit w₁ l b g q (k .disk) (r .alive) e (omega arith) in
+      let i : Inv (commitLogged w₁ l g q) (committed b g q) = invariant-commit w₁ l b g q (k .disk) (r .alive) e (omega arith) in
       let a : Alive (history ++ (cblk g ∷ [])) home (clive g q) (committed b g q) = i .lives in
       let pq : UpsQ (z .P) (g ∷ q) = rw e at (r .places) in
       let ws : Wells (g ∷ q) = rw e at (r .alive .wells) in
@@ -194,12 +194,12 @@ module _ (z : Sizes) (log : List Slot) (home : ℕ → List ℕ) (b : Book) (his
       → Kept z (store (z .N) (length history + 1) (nblk q) log) home b (history ++ (nblk q ∷ [])) × Runs z home b (history ++ (nblk q ∷ [])) (length history + 2) (nlive q)
   unfolding cleanLogged
   kept-clean q e f hp c0 rm =
-      let i : Inv (cleanLogged w₁ l q) b = inv-clean w₁ l b q (k .disk) (r .alive) hp c0 in
+      let i : Inv (cleanLogged w₁ l q) b = invariant-clean w₁ l b q (k .disk) (r .alive) hp c0 in
       let a : Alive (history ++ (nblk q ∷ [])) home (nlive q) b = i .lives in
       let pg : Pages (z .P) (without q (l .dirtyPages)) = pages-without (z .P) q (l .dirtyPages) (r .pages) in
       let cd : tally (z .P) (dirtyOf (history ++ (nblk q ∷ []))) ≡ length (without q (l .dirtyPages)) = count-dirty z home b (history ++ (nblk q ∷ [])) (nlive q) a pg in
       let ls : length (without q (l .dirtyPages)) + 1 ≤ length (l .dirtyPages) = without-less q e (l .dirtyPages) f in
-      let ol : keepFromOf (length history + 1) (l .dirtyPages) ≤ keepFromOf (length history + 1) (without q (l .dirtyPages)) = oldest-without (length history + 1) q (l .dirtyPages) in (
+      let ol : keepFromOf (length history + 1) (l .dirtyPages) ≤ keepFromOf (length history + 1) (without q (l .dirtyPages)) = keepFrom-without (length history + 1) q (l .dirtyPages) in (
         grown z log home b history l big k r (nblk q) b home (r .alive .ticket) (omega arith) (i .disk) (omega (arith, cd, ls, ol, rm)),
         record { next = omega (arith, length-append history (nblk q ∷ [])); alive = a; pages = pg; places = r .places },
       )
@@ -217,9 +217,9 @@ pub count-le : (history : List LogBlock) (m n : ℕ) (x : List Update) (q r : Li
 count-le history m n x q r e (whole y) = omega arith
 count-le history m n x q r e (part g′ r′ e′ y le pd st bg) = let s : g′ ≡ x = cc in omega (arith, ap length s)
 
-pub places-app : (P : ℕ) (q : List (List Update)) (x : List Update) → UpsQ P q → Ups P x → UpsQ P (q ++ (x ∷ []))
-places-app P [] x a h = (h, tt)
-places-app P (y ∷ q) x a h = (a .0, places-app P q x (a .1) h)
+pub places-append : (P : ℕ) (q : List (List Update)) (x : List Update) → UpsQ P q → Ups P x → UpsQ P (q ++ (x ∷ []))
+places-append P [] x a h = (h, tt)
+places-append P (y ∷ q) x a h = (a .0, places-append P q x (a .1) h)
 
 pub tally-none : (P : ℕ) → tally P (dirtyOf []) ≡ 0
 unfolding tally viewFrom
