@@ -13,6 +13,7 @@ use Rattle.promises.specs.Book.{Book, blank, counted, committed, stepped
 use Rattle.promises.specs.Events.{Sizes, World, Call, opening, begin, describe, ending, logStep, cleanStep, reading, settling, accepts}
 use Rattle.promises.proofs.History.Sees.{redo-append}
 use Rattle.promises.specs.Claim.{
+  Steps,
   entered,
   cutAt,
   both,
@@ -137,21 +138,21 @@ blank-counts : (home : List ℕ) → Counts home [] 0 (pageAt home)
 unfolding redo ofPage
 blank-counts home = record { count = refl; made = λ p. refl }
 
-counts : (z : Sizes) (w : World) (b : Book) (run : Run z w b) → Counts (foundBy run) (committedBy run) (b .m) (b .pages)
+counts : (by : Steps) (z : Sizes) (w : World) (b : Book) (run : Run by z w b) → Counts (foundBy run) (committedBy run) (b .m) (b .pages)
 unfolding foundBy committedBy
-counts z w b (formatted log log′ home frames staging r l h f e q) =
+counts by z w b (formatted log log′ home frames staging r l h f e q) =
     as-book home [] (blank home) b q (blank-counts home)
-counts z w b (called {world = w₀} {book = b₀} c a run l st e) =
+counts by z w b (called {world = w₀} {book = b₀} c a run l st e) =
     as-book (foundBy run) (committedBy run ++ commitsOf c (accepts a) b₀) (entered c (accepts a) b₀) b e
-    (on-call (foundBy run) (committedBy run) b₀ (counts z w₀ b₀ run) c (accepts a))
-counts z w b (unfit {world = w₀} {book = b₀} c a lent lent′ run same st r e q) =
-    as-book (foundBy run) (committedBy run) (entered c false b₀) b q (call-refused (foundBy run) (committedBy run) b₀ (counts z w₀ b₀ run) c)
-counts z w b (cut {world = w₀} {book = b₀} c a w′ stored frames staging run l st e q) =
+    (on-call (foundBy run) (committedBy run) b₀ (counts by z w₀ b₀ run) c (accepts a))
+counts by z w b (unfit {world = w₀} {book = b₀} c a lent lent′ run same st r e q) =
+    as-book (foundBy run) (committedBy run) (entered c false b₀) b q (call-refused (foundBy run) (committedBy run) b₀ (counts by z w₀ b₀ run) c)
+counts by z w b (cut {world = w₀} {book = b₀} c a w′ stored frames staging run l st e q) =
     as-book (foundBy run) (committedBy run ++ commitsOf c (both stored (accepts a)) b₀) (cutAt c (both stored (accepts a)) b₀) b q
-    (on-cut (foundBy run) (committedBy run) b₀ (counts z w₀ b₀ run) c (both stored (accepts a)))
-counts z w b (cutUnfit {world = w₀} {book = b₀} c a lent lent′ frames staging run same st r e q) =
-    as-book (foundBy run) (committedBy run) (cutAt c false b₀) b q (cut-refused (foundBy run) (committedBy run) b₀ (counts z w₀ b₀ run) c)
+    (on-cut (foundBy run) (committedBy run) b₀ (counts by z w₀ b₀ run) c (both stored (accepts a)))
+counts by z w b (cutUnfit {world = w₀} {book = b₀} c a lent lent′ frames staging run same st r e q) =
+    as-book (foundBy run) (committedBy run) (cutAt c false b₀) b q (cut-refused (foundBy run) (committedBy run) b₀ (counts by z w₀ b₀ run) c)
 
 -- the book accounts for every run
-pub book-accounts : BookClaim
-book-accounts z w b run = let k = counts z w b run in record { counts = k .count; pagesAre = k .made }
+pub book-accounts : (by : Steps) → BookClaim by
+book-accounts by z w b run = let k = counts by z w b run in record { counts = k .count; pagesAre = k .made }

@@ -42,7 +42,7 @@ use Rattle.promises.specs.Events.{
   Lent,
   fallen,
 }
-use Rattle.promises.specs.Claim.{entered, cutAt, both, Run, formatted, called, unfit, cut, cutUnfit, Right, Safe, InRange, Claim}
+use Rattle.promises.specs.Claim.{entered, cutAt, both, promised, Run, formatted, called, unfit, cut, cutUnfit, Right, Safe, InRange, Claim}
 use Rattle.promises.proofs.History.Machine.{lastKeep}
 use Rattle.promises.proofs.History.Views.{viewFrom}
 use Rattle.promises.proofs.History.Tally.{tally}
@@ -241,7 +241,7 @@ on-cut-unfit z w w″ b b″ c frames staging g e q =
     go (reading p) = fall z w b frames staging g
     go (settling t) = fall z w b frames staging g
 
-good : (z : Sizes) → Ranged z → (w : World) (b : Book) → Run z w b → Good z w b
+good : (z : Sizes) → Ranged z → (w : World) (b : Book) → Run promised z w b → Good z w b
 good z range w b (formatted log log′ home frames staging r l h f e q) = on-formatted z range w b log log′ home frames staging r l h f e q
 good z range w b (called {world = w₀} {book = b₀} c a run l st e) = on-called z range w₀ w b₀ b c a (good z range w₀ b₀ run) l st e
 good z range w b (unfit {world = w₀} {book = b₀} c a lent lent′ run same st r e q) = on-unfit z w₀ w b₀ b c a lent lent′ (good z range w₀ b₀ run) same st r e q
@@ -261,7 +261,7 @@ answer z range w b g (reading p) a w′ l st ok = answer-reading z w b g p a w�
 answer z range w b g (settling t) a w′ l st ok = answer-settling z w b g t a w′ st ok
 
 -- demand 3
-pub demand-three : Claim
+pub demand-three : Claim promised
 demand-three z inRange w b run =
     let range = ranged z inRange in
     let g : Good z w b = good z range w b run in

@@ -17,3 +17,5 @@ pub mod Demand3
 pub mod Accounts
 pub mod Promised
 pub mod Life
+pub mod Refines
+pub mod Corollaries

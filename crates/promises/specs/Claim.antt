@@ -66,29 +66,38 @@ abbrev pub both : Bool → Bool → Bool
 both true b = b
 both false b = false
 
+-- ---- how Format and the calls step: by their promises, or by what a caller learns of the code
+pub record Steps : Type 1 where
+  pub formats : List ℕ → Answer → List ℕ → Type 0
+  pub steps : Call → World → Reply → World → Type 0
+
+-- by their promises
+abbrev pub promised : Steps
+promised = record { formats = Formats; steps = Step }
+
 -- ---- the lists of events, each with the world and the book that it leads to
-pub data Run (sizes : Sizes) : World → Book → Type 0 where
+pub data Run (by : Steps) (sizes : Sizes) : World → Book → Type 0 where
   -- Format's end: home as found, the all-zero state, any bytes in frames and staging
   formatted : {world : World} {book : Book} (log log′ home frames staging : List ℕ) (answer : Answer)
-      → length log ≡ logLength (sizes .slots) → length home ≡ homeLength (sizes .pages) → Formats log answer log′
+      → length log ≡ logLength (sizes .slots) → length home ≡ homeLength (sizes .pages) → by .formats log answer log′
       → world ≡ record { state = allZeroState; log = log′; home = home; frames = frames; staging = staging } → book ≡ blank home
-      → Run sizes world book
+      → Run by sizes world book
   -- a call
-  called : {world world′ : World} {book book′ : Book} (call : Call) (reply : Reply) → Run sizes world book → Lent sizes call
-      → Step call world reply world′ → book′ ≡ entered call (accepts reply) book → Run sizes world′ book′
+  called : {world world′ : World} {book book′ : Book} (call : Call) (reply : Reply) → Run by sizes world book → Lent sizes call
+      → by .steps call world reply world′ → book′ ≡ entered call (accepts reply) book → Run by sizes world′ book′
   -- a call that is lent other areas, and refused with 1 or 2
-  unfit : {world world′ : World} {book book′ : Book} (call : Call) (reply : Reply) (lent lent′ : World) → Run sizes world book
-      → lent .state ≡ world .state → Step call lent reply lent′ → (reply ≡ refuses 1) ⊎ (reply ≡ refuses 2)
-      → world′ ≡ withState world (lent′ .state) → book′ ≡ entered call false book → Run sizes world′ book′
+  unfit : {world world′ : World} {book book′ : Book} (call : Call) (reply : Reply) (lent lent′ : World) → Run by sizes world book
+      → lent .state ≡ world .state → by .steps call lent reply lent′ → (reply ≡ refuses 1) ⊎ (reply ≡ refuses 2)
+      → world′ ≡ withState world (lent′ .state) → book′ ≡ entered call false book → Run by sizes world′ book′
   -- a cut at a call: log and home as before it or after it, its block old or new
   cut : {world world″ : World} {book book″ : Book} (call : Call) (reply : Reply) (world′ : World) (stored : Bool) (frames staging : List ℕ)
-      → Run sizes world book → Lent sizes call → Step call world reply world′
+      → Run by sizes world book → Lent sizes call → by .steps call world reply world′
       → world″ ≡ fallen (cond stored world′ world) frames staging → book″ ≡ cutAt call (both stored (accepts reply)) book
-      → Run sizes world″ book″
+      → Run by sizes world″ book″
   -- a cut at a call that is lent other areas, and would be refused with 1 or 2
   cutUnfit : {world world″ : World} {book book″ : Book} (call : Call) (reply : Reply) (lent lent′ : World) (frames staging : List ℕ)
-      → Run sizes world book → lent .state ≡ world .state → Step call lent reply lent′ → (reply ≡ refuses 1) ⊎ (reply ≡ refuses 2)
-      → world″ ≡ fallen world frames staging → book″ ≡ cutAt call false book → Run sizes world″ book″
+      → Run by sizes world book → lent .state ≡ world .state → by .steps call lent reply lent′ → (reply ≡ refuses 1) ⊎ (reply ≡ refuses 2)
+      → world″ ≡ fallen world frames staging → book″ ≡ cutAt call false book → Run by sizes world″ book″
 
 -- ---- the answers: what the book says of an accepted call
 abbrev pub Right : Call → Reply → Book → Type 0
@@ -102,25 +111,25 @@ Right cleanStep reply book = reply ≡ done
 Right (reading page) reply book = reply ≡ shows (book .pages page)
 Right (settling ticket) reply book = reply ≡ says (leb ticket (book .m))
 
-pub record Safe (sizes : Sizes) (world : World) (book : Book) : Type 0 where
+pub record Safe (by : Steps) (sizes : Sizes) (world : World) (book : Book) : Type 0 where
   -- whatever is called next answers what the book says, if it is accepted
-  pub answers : (call : Call) (reply : Reply) (world′ : World) → Lent sizes call → Step call world reply world′ → accepts reply ≡ true
+  pub answers : (call : Call) (reply : Reply) (world′ : World) → Lent sizes call → by .steps call world reply world′ → accepts reply ≡ true
       → Right call reply book
   -- the next opening is accepted and reports m
   pub opens : (frames staging : List ℕ) (reply : Reply) (world′ : World) → Lent sizes (opening frames staging)
-      → Step (opening frames staging) world reply world′ → reply ≡ settles (book .m)
+      → by .steps (opening frames staging) world reply world′ → reply ≡ settles (book .m)
   -- after it every page is shown, and is the book's
   pub reads : (frames staging : List ℕ) (reply : Reply) (world′ : World) → Lent sizes (opening frames staging)
-      → Step (opening frames staging) world reply world′ → (page : ℕ) (answer : Reply) (world″ : World) → page < sizes .pages
-      → Step (reading page) world′ answer world″ → answer ≡ shows (book .pages page)
+      → by .steps (opening frames staging) world reply world′ → (page : ℕ) (answer : Reply) (world″ : World) → page < sizes .pages
+      → by .steps (reading page) world′ answer world″ → answer ≡ shows (book .pages page)
 
 pub record InRange (sizes : Sizes) : Type 0 where
   pub slots : slotsInRange (sizes .slots) ≡ true
   pub pages : pagesInRange (sizes .pages) ≡ true
   pub frames : framesInRange (sizes .frames) ≡ true
 
-abbrev pub Claim : Type 0
-Claim = (sizes : Sizes) → InRange sizes → (world : World) (book : Book) → Run sizes world book → Safe sizes world book
+abbrev pub Claim : Steps → Type 0
+Claim by = (sizes : Sizes) → InRange sizes → (world : World) (book : Book) → Run by sizes world book → Safe by sizes world book
 
 -- ---- the book's pages, by the transactions that were committed
 
@@ -140,7 +149,7 @@ commitsOf (reading page) stored book = []
 commitsOf (settling ticket) stored book = []
 
 -- the transactions that a run committed, in ticket order
-unfoldable pub committedBy : {sizes : Sizes} {world : World} {book : Book} → Run sizes world book → List (List Update)
+unfoldable pub committedBy : {by : Steps} {sizes : Sizes} {world : World} {book : Book} → Run by sizes world book → List (List Update)
 committedBy (formatted log log′ home frames staging answer logLong homeLong formats worldIs bookIs) = []
 committedBy (called {book = book} call reply run lent step bookIs) = committedBy run ++ commitsOf call (accepts reply) book
 committedBy (unfit call reply lent lent′ run same step refused worldIs bookIs) = committedBy run
@@ -149,7 +158,7 @@ committedBy (cut {book = book} call reply world′ stored frames staging run len
 committedBy (cutUnfit call reply lent lent′ frames staging run same step refused worldIs bookIs) = committedBy run
 
 -- home as found at formatting
-unfoldable pub foundBy : {sizes : Sizes} {world : World} {book : Book} → Run sizes world book → List ℕ
+unfoldable pub foundBy : {by : Steps} {sizes : Sizes} {world : World} {book : Book} → Run by sizes world book → List ℕ
 foundBy (formatted log log′ home frames staging answer logLong homeLong formats worldIs bookIs) = home
 foundBy (called call reply run lent step bookIs) = foundBy run
 foundBy (unfit call reply lent lent′ run same step refused worldIs bookIs) = foundBy run
@@ -162,9 +171,9 @@ together [] = []
 together (group ∷ rest) = group ++ together rest
 
 -- m counts the committed transactions, and the pages are what they make, in ticket order, of the pages at formatting
-pub record Accounts {sizes : Sizes} {world : World} {book : Book} (run : Run sizes world book) : Type 0 where
+pub record Accounts {by : Steps} {sizes : Sizes} {world : World} {book : Book} (run : Run by sizes world book) : Type 0 where
   pub counts : length (committedBy run) ≡ book .m
   pub pagesAre : (page : ℕ) → book .pages page ≡ redo (ofPage page (together (committedBy run))) (pageAt (foundBy run) page)
 
-abbrev pub BookClaim : Type 0
-BookClaim = (sizes : Sizes) (world : World) (book : Book) (run : Run sizes world book) → Accounts run
+abbrev pub BookClaim : Steps → Type 0
+BookClaim by = (sizes : Sizes) (world : World) (book : Book) (run : Run by sizes world book) → Accounts run

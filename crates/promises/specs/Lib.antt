@@ -21,3 +21,4 @@ pub mod Settled
 pub mod Book
 pub mod Events
 pub mod Claim
+pub mod Corollaries

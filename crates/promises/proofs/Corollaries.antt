@@ -1,0 +1,225 @@
+-- What follows from demand 3 for a desk.
+-- Assumes nothing.
+use mathlib.Core.Path.{_≡_, refl, sym, ap, _∙_, subst}
+use mathlib.Core.Bool.{Bool, true, false, cond}
+use Prim.Native.Nat.{ℕ, _+_, _≤_, _<_}
+use mathlib.Core.List.{List, [], _∷_, _++_, append-nil, append-assoc}
+use native.Mathlib.Omega.{arith}
+use native.Mathlib.Nat.{le-refl}
+use lib.ListN.{length}
+use lib.Dec.{leb, ltb}
+use borrow.Author.Tests.{le-leb}
+use Rattle.promises.specs.Areas.{pageAt}
+use Rattle.promises.specs.Updates.{Update, redo, ofPage}
+use Rattle.promises.specs.Book.{Book, blank, counted, committed, stepped, steppedOver}
+use Rattle.promises.specs.Events.{Sizes, World, Call, opening, begin, describe, ending, logStep, cleanStep, reading, settling, Reply, shows, says, accepts, Lent, fallen}
+use Rattle.promises.specs.Claim.{Steps, entered, cutAt, both, Run, formatted, called, unfit, cut, cutUnfit, leaving, commitsOf, committedBy, foundBy, together, InRange, Safe}
+use Rattle.promises.specs.Corollaries.{Begins, itself, byCall, byUnfit, byCut, byCutUnfit, StaysSettled, endsOf, endedBy, Among, none, left, taken, ShownTogether, AllOrNothing, NoTrace, OpensAlike}
+use Rattle.promises.proofs.Accounts.{book-accounts}
+use Rattle.promises.proofs.Refines.{Refines, demand-three-by}
+
+-- ---- m never falls
+m-stepped : (b : Book) (queue : List (List Update)) → b .m ≤ steppedOver b queue .m
+m-stepped b [] = le-refl (b .m)
+m-stepped b (g ∷ rest) = go (ltb (length g) (b .count + 1))
+  where
+    go : (c : Bool) → b .m ≤ cond {A = Book} c (committed b g rest) (counted b) .m
+    go true = omega arith
+    go false = le-refl (b .m)
+
+m-entered : (c : Call) (ok : Bool) (b : Book) → b .m ≤ entered c ok b .m
+m-entered (opening frames staging) ok b = le-refl (b .m)
+m-entered (begin u) true b = le-refl (b .m)
+m-entered (begin u) false b = le-refl (b .m)
+m-entered (describe u) true b = le-refl (b .m)
+m-entered (describe u) false b = le-refl (b .m)
+m-entered ending true b = le-refl (b .m)
+m-entered ending false b = le-refl (b .m)
+m-entered logStep true b = m-stepped b (b .queue)
+m-entered logStep false b = le-refl (b .m)
+m-entered cleanStep ok b = le-refl (b .m)
+m-entered (reading p) ok b = le-refl (b .m)
+m-entered (settling t) ok b = le-refl (b .m)
+
+m-cut : (c : Call) (stored : Bool) (b : Book) → b .m ≤ cutAt c stored b .m
+m-cut (opening frames staging) stored b = le-refl (b .m)
+m-cut (begin u) stored b = le-refl (b .m)
+m-cut (describe u) stored b = le-refl (b .m)
+m-cut ending stored b = le-refl (b .m)
+m-cut logStep true b = m-stepped b (b .queue)
+m-cut logStep false b = le-refl (b .m)
+m-cut cleanStep stored b = le-refl (b .m)
+m-cut (reading p) stored b = le-refl (b .m)
+m-cut (settling t) stored b = le-refl (b .m)
+
+m-grows : {by : Steps} {z : Sizes} {w : World} {b : Book} {run : Run by z w b} {w′ : World} {b′ : Book} {run′ : Run by z w′ b′}
+    → Begins run w′ b′ run′ → b .m ≤ b′ .m
+m-grows {b} itself = le-refl (b .m)
+m-grows (byCall {book₁ = b₁} more c a l st e) = omega (arith, m-grows more, m-entered c (accepts a) b₁, ap (λ (x : Book). x .m) e)
+m-grows (byUnfit {book₁ = b₁} more c a lent lent′ s st r w e) = omega (arith, m-grows more, m-entered c false b₁, ap (λ (x : Book). x .m) e)
+m-grows (byCut {book₁ = b₁} more c a w′ stored frames staging l st w e) =
+    omega (arith, m-grows more, m-cut c (both stored (accepts a)) b₁, ap (λ (x : Book). x .m) e)
+m-grows (byCutUnfit {book₁ = b₁} more c a lent lent′ frames staging s st r w e) = omega (arith, m-grows more, m-cut c false b₁, ap (λ (x : Book). x .m) e)
+
+-- ---- committed transactions are among the ended ones
+among-nil : (all : List (List Update)) → Among [] all
+among-nil [] = none
+among-nil (g ∷ all) = left g (among-nil all)
+
+among-append : {xs all ys more : List (List Update)} → Among xs all → Among ys more → Among (xs ++ ys) (all ++ more)
+among-append none k = k
+among-append (left g h) k = left g (among-append h k)
+among-append (taken g h) k = taken g (among-append h k)
+
+front : (xs ys : List (List Update)) {all : List (List Update)} → Among (xs ++ ys) all → Among xs all
+front xs ys {all} h = go xs ys (xs ++ ys) all refl h
+  where
+    go : (xs ys zs all : List (List Update)) → zs ≡ xs ++ ys → Among zs all → Among xs all
+    go [] ys zs all e h = among-nil all
+    go (x ∷ xs) ys zs all e none = let n : _≡_ {A = ℕ} 0 1 = cc in absurd (omega arith)
+    go (x ∷ xs) ys zs all e (left {all = rest} g h) = left g (go (x ∷ xs) ys zs rest e h)
+    go (x ∷ xs) ys zs all e (taken {some = some} {all = rest} g h) =
+        let p : g ≡ x = cc in
+        let q : some ≡ xs ++ ys = cc in
+        subst (λ (y : List Update). Among (y ∷ xs) (g ∷ rest)) p (taken g (go xs ys some rest q h))
+
+-- committed transactions, then those that wait, are among the ended ones
+abbrev Waits : List (List Update) → List (List Update) → List (List Update) → Type 0
+Waits gs queue all = Among (gs ++ queue) all
+
+-- an event that ends nothing and commits nothing
+quiet : (gs queue all : List (List Update)) → Waits gs queue all → Waits (gs ++ []) queue (all ++ [])
+quiet gs queue all h = rw (append-nil gs, append-nil all) h
+
+forgets : (gs queue all : List (List Update)) → Waits gs queue all → Waits (gs ++ []) [] (all ++ [])
+forgets gs queue all h = rw (append-nil gs, append-nil all, append-nil gs) (front gs queue h)
+
+stepping : (gs all : List (List Update)) (b : Book) (queue : List (List Update)) → b .queue ≡ queue → Waits gs queue all
+    → Waits (gs ++ leaving (b .count) queue) (steppedOver b queue .queue) (all ++ [])
+stepping gs all b [] e h = rw e (quiet gs [] all h)
+stepping gs all b (g ∷ rest) e h = go (ltb (length g) (b .count + 1))
+  where
+    go : (c : Bool) → Waits (gs ++ cond c (g ∷ []) []) (cond {A = Book} c (committed b g rest) (counted b) .queue) (all ++ [])
+    go true = rw (append-assoc gs (g ∷ []) rest, append-nil all) h
+    go false = rw e (quiet gs (g ∷ rest) all h)
+
+on-call : (gs all : List (List Update)) (b : Book) → Waits gs (b .queue) all → (c : Call) (ok : Bool)
+    → Waits (gs ++ commitsOf c ok b) (entered c ok b .queue) (all ++ endsOf c ok b)
+on-call gs all b h (opening frames staging) ok = forgets gs (b .queue) all h
+on-call gs all b h (begin u) true = quiet gs (b .queue) all h
+on-call gs all b h (begin u) false = quiet gs (b .queue) all h
+on-call gs all b h (describe u) true = quiet gs (b .queue) all h
+on-call gs all b h (describe u) false = quiet gs (b .queue) all h
+on-call gs all b h ending true =
+    rw (append-nil gs, ← (append-assoc gs (b .queue) (b .list ∷ []))) (among-append h (taken (b .list) none))
+on-call gs all b h ending false = quiet gs (b .queue) all h
+on-call gs all b h logStep true = stepping gs all b (b .queue) refl h
+on-call gs all b h logStep false = quiet gs (b .queue) all h
+on-call gs all b h cleanStep ok = quiet gs (b .queue) all h
+on-call gs all b h (reading p) ok = quiet gs (b .queue) all h
+on-call gs all b h (settling t) ok = quiet gs (b .queue) all h
+
+-- after a cut nothing waits
+on-cut : (gs all : List (List Update)) (b : Book) → Waits gs (b .queue) all → (c : Call) (stored : Bool)
+    → Waits (gs ++ commitsOf c stored b) (cutAt c stored b .queue) all
+on-cut gs all b h (opening frames staging) stored = rw (append-nil gs, append-nil gs) (front gs (b .queue) h)
+on-cut gs all b h (begin u) stored = rw (append-nil gs, append-nil gs) (front gs (b .queue) h)
+on-cut gs all b h (describe u) stored = rw (append-nil gs, append-nil gs) (front gs (b .queue) h)
+on-cut gs all b h ending stored = rw (append-nil gs, append-nil gs) (front gs (b .queue) h)
+on-cut gs all b h logStep true =
+    rw (append-nil (gs ++ leaving (b .count) (b .queue)))
+    (rw (append-nil all) at (front (gs ++ leaving (b .count) (b .queue)) (stepped b .queue) (stepping gs all b (b .queue) refl h)))
+on-cut gs all b h logStep false = rw (append-nil gs, append-nil gs) (front gs (b .queue) h)
+on-cut gs all b h cleanStep stored = rw (append-nil gs, append-nil gs) (front gs (b .queue) h)
+on-cut gs all b h (reading p) stored = rw (append-nil gs, append-nil gs) (front gs (b .queue) h)
+on-cut gs all b h (settling t) stored = rw (append-nil gs, append-nil gs) (front gs (b .queue) h)
+
+refused-call : (gs all : List (List Update)) (b : Book) → Waits gs (b .queue) all → (c : Call) → Waits gs (entered c false b .queue) all
+refused-call gs all b h (opening frames staging) = rw (append-nil gs) (front gs (b .queue) h)
+refused-call gs all b h (begin u) = h
+refused-call gs all b h (describe u) = h
+refused-call gs all b h ending = h
+refused-call gs all b h logStep = h
+refused-call gs all b h cleanStep = h
+refused-call gs all b h (reading p) = h
+refused-call gs all b h (settling t) = h
+
+refused-cut : (gs all : List (List Update)) (b : Book) → Waits gs (b .queue) all → (c : Call) → Waits gs (cutAt c false b .queue) all
+refused-cut gs all b h (opening frames staging) = rw (append-nil gs) (front gs (b .queue) h)
+refused-cut gs all b h (begin u) = rw (append-nil gs) (front gs (b .queue) h)
+refused-cut gs all b h (describe u) = rw (append-nil gs) (front gs (b .queue) h)
+refused-cut gs all b h ending = rw (append-nil gs) (front gs (b .queue) h)
+refused-cut gs all b h logStep = rw (append-nil gs) (front gs (b .queue) h)
+refused-cut gs all b h cleanStep = rw (append-nil gs) (front gs (b .queue) h)
+refused-cut gs all b h (reading p) = rw (append-nil gs) (front gs (b .queue) h)
+refused-cut gs all b h (settling t) = rw (append-nil gs) (front gs (b .queue) h)
+
+as-book : (gs all : List (List Update)) (b b′ : Book) → b′ ≡ b → Waits gs (b .queue) all → Waits gs (b′ .queue) all
+as-book gs all b b′ e h = subst (λ (x : Book). Waits gs (x .queue) all) (sym e) h
+
+waits : (by : Steps) (z : Sizes) (w : World) (b : Book) (run : Run by z w b) → Waits (committedBy run) (b .queue) (endedBy run)
+unfolding committedBy endedBy
+waits by z w b (formatted log log′ home frames staging a l h f e q) = as-book [] [] (blank home) b q none
+waits by z w b (called {world = w₀} {book = b₀} c a run l st e) =
+    as-book (committedBy run ++ commitsOf c (accepts a) b₀) (endedBy run ++ endsOf c (accepts a) b₀) (entered c (accepts a) b₀) b e
+    (on-call (committedBy run) (endedBy run) b₀ (waits by z w₀ b₀ run) c (accepts a))
+waits by z w b (unfit {world = w₀} {book = b₀} c a lent lent′ run s st r e q) =
+    as-book (committedBy run) (endedBy run) (entered c false b₀) b q (refused-call (committedBy run) (endedBy run) b₀ (waits by z w₀ b₀ run) c)
+waits by z w b (cut {world = w₀} {book = b₀} c a w′ stored frames staging run l st e q) =
+    as-book (committedBy run ++ commitsOf c (both stored (accepts a)) b₀) (endedBy run) (cutAt c (both stored (accepts a)) b₀) b q
+    (on-cut (committedBy run) (endedBy run) b₀ (waits by z w₀ b₀ run) c (both stored (accepts a)))
+waits by z w b (cutUnfit {world = w₀} {book = b₀} c a lent lent′ frames staging run s st r e q) =
+    as-book (committedBy run) (endedBy run) (cutAt c false b₀) b q (refused-cut (committedBy run) (endedBy run) b₀ (waits by z w₀ b₀ run) c)
+
+-- ---- a cut that commits nothing leaves the pages
+pages-cut : (c : Call) (stored : Bool) (b : Book) → commitsOf c stored b ≡ [] → (p : ℕ) → cutAt c stored b .pages p ≡ b .pages p
+pages-cut (opening frames staging) stored b e p = refl
+pages-cut (begin u) stored b e p = refl
+pages-cut (describe u) stored b e p = refl
+pages-cut ending stored b e p = refl
+pages-cut logStep true b e p = go (b .queue) e
+  where
+    one : (g : List Update) (rest : List (List Update)) (c : Bool) → cond c (g ∷ []) [] ≡ [] → cond {A = Book} c (committed b g rest) (counted b) .pages p ≡ b .pages p
+    one g rest true e = let n : _≡_ {A = ℕ} 0 1 = cc in absurd (omega arith)
+    one g rest false e = refl
+
+    go : (queue : List (List Update)) → leaving (b .count) queue ≡ [] → steppedOver b queue .pages p ≡ b .pages p
+    go [] e = refl
+    go (g ∷ rest) e = one g rest (ltb (length g) (b .count + 1)) e
+pages-cut logStep false b e p = refl
+pages-cut cleanStep stored b e p = refl
+pages-cut (reading q) stored b e p = refl
+pages-cut (settling t) stored b e p = refl
+
+module _ (by : Steps) (r : Refines by) where
+  pub stays-settled : StaysSettled by
+  stays-settled z range w b run t h w′ b′ run′ more a w″ st ok =
+      demand-three-by by r z range w′ b′ run′ .answers (settling t) a w″ tt st ok
+      ∙ ap says (le-leb t (b′ .m) (omega (arith, m-grows more)))
+
+  pub opens-alike : OpensAlike by
+  opens-alike z range w b run frames staging frames′ staging′ a a′ w′ w″ l st l′ st′ p h x y last last′ rd rd′ =
+      let safe = demand-three-by by r z range w b run in
+      let e : a ≡ _ = safe .opens frames staging a w′ l st in
+      let run′ = called (opening frames staging) a run l st refl in
+      let safe′ = demand-three-by by r z range w′ _ run′ in (
+        e ∙ sym (safe′ .opens frames′ staging′ a′ w″ l′ st′),
+        safe .reads frames staging a w′ l st p x last h rd ∙ sym (safe′ .reads frames′ staging′ a′ w″ l′ st′ p y last′ h rd′),
+      )
+
+  pub no-trace : NoTrace by
+  no-trace z range w b run c a w′ stored frames staging l st quiet-cut frames′ staging′ o after l′ st′ p h x last rd =
+      let run′ = cut c a w′ stored frames staging run l st refl refl in
+      demand-three-by by r z range _ _ run′ .reads frames′ staging′ o after l′ st′ p x last h rd
+      ∙ ap shows (pages-cut c (both stored (accepts a)) b quiet-cut p)
+
+  pub all-or-nothing : AllOrNothing by
+  all-or-nothing z range w b run frames staging a w′ l st p q hp hq x y w″ w‴ rd rd′ =
+      let safe = demand-three-by by r z range w b run in
+      let k = book-accounts by z w b run in
+      record {
+        transactions = committedBy run;
+        ofTheDesk = front (committedBy run) (b .queue) (waits by z w b run);
+        first = safe .reads frames staging a w′ l st p x w″ hp rd ∙ ap shows (k .pagesAre p);
+        second = safe .reads frames staging a w′ l st q y w‴ hq rd′ ∙ ap shows (k .pagesAre q);
+      }
