@@ -4,7 +4,7 @@
 use mathlib.Core.Path.{_≡_, refl, sym, ap, _∙_}
 use mathlib.Core.Bool.{Bool, true, false, _&&_}
 use mathlib.Core.List.{List}
-use Prim.Native.Nat.{ℕ, suc, _+_, _-_, _≤_, _<_}
+use Prim.Native.Nat.{ℕ, _+_, _-_, _≤_, _<_}
 use native.Mathlib.Omega.{arith}
 use native.Mathlib.Numerals.{add-one}
 use lib.Dec.{leb, ltb, eqb}
@@ -30,16 +30,20 @@ use Rattle.block.proofs.Laid.{laid, sameFields, reserved}
 
 -- ---- all bytes are zero
 
+-- the byte at i and those after it
 step : (bytes : List ℕ) (i : ℕ) → i < length bytes → allZero (drop i bytes) ≡ (eqb (getD bytes i 0) 0 && allZero (drop (i + 1) bytes))
 unfolding allZero
 step bytes i h = rw (add-one, drop-cons bytes i 0 h)
 
+-- a zero byte is passed
 pub zeros-turn : (bytes : List ℕ) (i : ℕ) → i < length bytes → getD bytes i 0 ≡ 0 → allZero (drop i bytes) ≡ allZero (drop (i + 1) bytes)
 zeros-turn bytes i h e = step bytes i h ∙ ap (λ (t : Bool). t && allZero (drop (i + 1) bytes)) (eq-eqb (getD bytes i 0) 0 e)
 
+-- another byte decides
 pub zeros-not : (bytes : List ℕ) (i : ℕ) → i < length bytes → (getD bytes i 0 ≡ 0 → ⊥) → allZero (drop i bytes) ≡ false
 zeros-not bytes i h n = step bytes i h ∙ ap (λ (t : Bool). t && allZero (drop (i + 1) bytes)) (ne-eqb (getD bytes i 0) 0 n)
 
+-- past the last byte
 pub zeros-end : (bytes : List ℕ) (i : ℕ) → length bytes ≤ i → allZero (drop i bytes) ≡ true
 unfolding allZero
 zeros-end bytes i h = rw (drop-of-length-le bytes h)
@@ -71,7 +75,7 @@ numbers-law slots s k ticket back e =
     ap (λ (t : Bool). leb 1 s && ltb s sequenceEnd && leb 1 k && leb k s && t && ltb ticket s)
     (ap (λ (n : ℕ). ltb n slots) e ∙ ap (λ (n : ℕ). leb n slots) (sym (add-one (s - k))))
 
--- ---- the kind that fields tell
+-- ---- the kind that fields tell: 1, 2, any other number
 
 pub kind-update : (fields : Fields) → fields .kind ≡ 1 → Update (fields .index) (fields .page) (fields .offset) (fields .length) ≡ kindOf fields
 unfolding kindOf
@@ -93,37 +97,46 @@ count-kind pages ticket (Update index page offset length) h = let g = simp tests
 count-kind pages ticket (Commit updates) h = omega arith
 count-kind pages ticket (Clean page) h = omega arith
 
+-- and so has a legal block
 pub legal-count : (slots pages : ℕ) (block : Block) → legal slots pages block ≡ true → lengthOf (block .kind) ≤ newBytesMost
 unfolding legal
 legal-count slots pages block h =
     count-kind pages (block .ticket) (block .kind)
     (and-iff (legalNumbers slots (block .sequence) (block .«keep_from») (block .ticket)) (legalKind pages (block .ticket) (block .kind)) .0 h .1)
 
+-- a slot of zeros is unused
 pub judged-unused : (slots pages place : ℕ) (bytes : List ℕ) → allZero bytes ≡ true → Unused ≡ judged slots pages place bytes
 unfolding judged
 judged-unused slots pages place bytes h = rw h
 
 module _ (slots pages place : ℕ) (bytes : List ℕ) (block : Block) where
+  -- a block that is not legal is not valid
   pub valid-illegal : legal slots pages block ≡ false → false ≡ valid slots pages place bytes block
   unfolding valid
   valid-illegal h = rw h
 
+  -- nor is one in another slot than its own
   pub valid-elsewhere : legal slots pages block ≡ true → (slotOf slots (block .sequence) ≡ place → ⊥) → false ≡ valid slots pages place bytes block
   unfolding valid
   valid-elsewhere h n = rw (h, ne-eqb (slotOf slots (block .sequence)) place n)
 
+  -- in its own slot a legal block is valid if the bytes are its layout
   pub valid-here : legal slots pages block ≡ true → slotOf slots (block .sequence) ≡ place
       → same bytes (layout block (newBytesAt bytes (lengthOf (block .kind)))) ≡ valid slots pages place bytes block
   unfolding valid
   valid-here h e = rw (h, eq-eqb (slotOf slots (block .sequence)) place e)
 
-  pub judged-valid : allZero bytes ≡ false → block ≡ blockAt bytes → valid slots pages place bytes block ≡ true → Valid block ≡ judged slots pages place bytes
+  -- a slot that is not unused is valid if its block is
+  pub judged-valid : (passed : Bool) → allZero bytes ≡ false → block ≡ blockAt bytes → passed ≡ valid slots pages place bytes block → passed ≡ true
+      → Valid block ≡ judged slots pages place bytes
   unfolding judged
-  judged-valid h e v = let w = rw e at v in rw (e, h, w)
+  judged-valid passed h e v t = let w = rw e at (sym v ∙ t) in rw (e, h, w)
 
-  pub judged-damaged : allZero bytes ≡ false → block ≡ blockAt bytes → valid slots pages place bytes block ≡ false → Damaged ≡ judged slots pages place bytes
+  -- else it is damaged
+  pub judged-damaged : (passed : Bool) → allZero bytes ≡ false → block ≡ blockAt bytes → passed ≡ valid slots pages place bytes block → passed ≡ false
+      → Damaged ≡ judged slots pages place bytes
   unfolding judged
-  judged-damaged h e v = let w = rw e at v in rw (h, w)
+  judged-damaged passed h e v t = let w = rw e at (sym v ∙ t) in rw (h, w)
 
 -- the four tests of a slot, each by what it was computed from
 pub laid-by : (bytes : List ℕ) (count : ℕ) (block : Block) (at of : Fields) (told padding : Bool) (x y a b : ℕ)

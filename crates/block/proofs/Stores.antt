@@ -1,11 +1,11 @@
 -- Numbers stored and read byte by byte, the header number by number, and a block built up from zeros.
 -- Assumes nothing.
-use mathlib.Core.Path.{_≡_, sym, ap, ap₂, _∙_}
+use mathlib.Core.Path.{_≡_, refl, sym, ap, ap₂, _∙_}
 use mathlib.Core.List.{List, [], _∷_, _++_, append-nil, append-assoc}
 use Prim.Native.Nat.{ℕ, zero, suc, _+_, _*_, _-_, _/_, _%_, _^_, _≤_, _<_}
 use native.Mathlib.Omega.{arith}
 use native.Mathlib.Nat.{pow-succ', pow-le-pow-right}
-use lib.ListN.{length, set, getD, take, drop, replicate, length-append, length-replicate, replicate-append-replicate, drop-of-length-le}
+use lib.ListN.{length, set, getD, drop, replicate, length-append, length-replicate, replicate-append-replicate, drop-of-length-le}
 use lib.Seq.{sets, sets-eq, take-at, drop-at, drop-cons}
 use Rattle.area.specs.Part.{part, splice}
 use Rattle.block.specs.Sizes.{blockSize, newBytesMost, headerSize, bodySize}
@@ -20,6 +20,7 @@ use Rattle.block.proofs.Lengths.{length-header, length-toBytes, length-
 
 -- ---- a number stored
 
+-- before the first byte
 pub put-start : (list : List ℕ) (place width value : ℕ) → sets list place (toBytes width value) ≡ sets list (place + 0) (toBytes (width - 0) value)
 put-start list place width value =
     let e : place + 0 ≡ place = omega arith in
@@ -36,12 +37,14 @@ put-turn list place i width left h =
     let f : place + (i + 1) ≡ suc (place + i) = omega arith in
     rw (e, f)
 
+-- after the last byte
 pub put-end : (list : List ℕ) (place i width left : ℕ) → width ≤ i → sets list place (toBytes (width - i) left) ≡ list
 unfolding toBytes
 put-end list place i width left h = let e : width - i ≡ 0 = omega arith in rw e
 
 -- ---- a number read
 
+-- before the first byte
 pub get-start : (list : List ℕ) (place width : ℕ) → 0 ≡ numberAt list (place + width) (width - width)
 unfolding numberAt part fromBytes
 get-start list place width = let e : width - width ≡ 0 = omega arith in rw e
@@ -70,14 +73,20 @@ get-fits width i j value byte m e h p q =
 
 -- ---- the header
 
--- ten numbers stored in a row are the header
-pub head-law : (list : List ℕ) (block : Block) (fields : Fields) → fields ≡ fieldsOf (block .kind)
-    → sets (sets (sets (sets (sets (sets (sets (sets (sets (sets list 0 (toBytes 8 (block .sequence))) 8 (toBytes 8 (block .«keep_from»)))
-    16 (toBytes 1 (fields .kind))) 17 (toBytes 1 0)) 18 (toBytes 2 (fields .index))) 20 (toBytes 2 (fields .page)))
-    22 (toBytes 2 (fields .offset))) 24 (toBytes 2 (fields .length))) 26 (toBytes 2 0)) 28 (toBytes 8 (block .ticket))
+-- seven numbers stored in a row are bytes 16 to 27
+pub middle-law : (list : List ℕ) (fields : Fields)
+    → sets (sets (sets (sets (sets (sets (sets list 16 (toBytes 1 (fields .kind))) 17 (toBytes 1 0)) 18 (toBytes 2 (fields .index)))
+    20 (toBytes 2 (fields .page))) 22 (toBytes 2 (fields .offset))) 24 (toBytes 2 (fields .length))) 26 (toBytes 2 0)
+    ≡ sets list 16 (middle fields)
+unfolding middle toBytes
+middle-law list fields = refl
+
+-- with the sequence and keep-from before them and the ticket behind, they are the header
+pub header-law : (list : List ℕ) (block : Block)
+    → sets (sets (sets (sets list 0 (toBytes 8 (block .sequence))) 8 (toBytes 8 (block .«keep_from»))) 16 (middle (fieldsOf (block .kind)))) 28 (toBytes 8 (block .ticket))
     ≡ sets list 0 (header block)
 unfolding header middle toBytes
-head-law list block fields e = rw e
+header-law list block = refl
 
 -- ---- a block built up from zeros
 
@@ -107,23 +116,26 @@ splice-zeros front new start n e =
     ∙ ap (λ (l : List ℕ). front ++ (new ++ drop (length new) l)) (drop-at front (replicate n 0) start e)
     ∙ ap (λ (l : List ℕ). front ++ (new ++ l)) (drop-zeros (length new) n)
 
+-- bytes stored over zeros, others copied behind them, and what is left of the zeros in two runs
+filled : (n start : ℕ) (front new : List ℕ) (left more : ℕ) → length front ≡ start → start ≤ n → n - start - length new ≡ left + more
+    → splice (sets (replicate n 0) 0 front) start (length new) new ≡ front ++ new ++ replicate left 0 ++ replicate more 0
+filled n start front new left more e h f =
+    let k : n - length front ≡ n - start = omega arith in
+    ap (λ (l : List ℕ). splice l start (length new) new) (sets-zeros n front (omega arith) ∙ ap (λ (m : ℕ). front ++ replicate m 0) k)
+    ∙ splice-zeros front new start (n - start) e
+    ∙ ap (λ (m : ℕ). front ++ (new ++ replicate m 0)) f
+    ∙ ap (λ (l : List ℕ). front ++ (new ++ l)) (sym (replicate-append-replicate left more 0))
+    ∙ regroup front new (replicate left 0) (replicate more 0)
+  where
+    regroup : (a b c d : List ℕ) → a ++ (b ++ (c ++ d)) ≡ a ++ b ++ c ++ d
+    regroup a b c d = sym (simp append-assoc)
+
 -- the header stored over zeros, and the new bytes copied behind it: bytes 0 to 507, and four zeros
 pub body-stored : (block : Block) (new : List ℕ) → length new ≤ newBytesMost
     → splice (sets (replicate blockSize 0) 0 (header block)) headerSize (length new) new ≡ body block new ++ replicate 4 0
 unfolding body
 body-stored block new h =
-    let long = length-header block in
-    let e : blockSize - length (header block) ≡ newBytesMost + 4 = omega arith in
-    let f : newBytesMost + 4 - length new ≡ newBytesMost - length new + 4 = omega arith in
-    ap (λ (l : List ℕ). splice l headerSize (length new) new)
-    (sets-zeros blockSize (header block) (omega arith) ∙ ap (λ (n : ℕ). header block ++ replicate n 0) e)
-    ∙ splice-zeros (header block) new headerSize (newBytesMost + 4) long
-    ∙ ap (λ (n : ℕ). header block ++ (new ++ replicate n 0)) f
-    ∙ ap (λ (l : List ℕ). header block ++ (new ++ l)) (sym (replicate-append-replicate (newBytesMost - length new) 4 0))
-    ∙ regroup (header block) new (replicate (newBytesMost - length new) 0) (replicate 4 0)
-  where
-    regroup : (a b c d : List ℕ) → a ++ (b ++ (c ++ d)) ≡ a ++ b ++ c ++ d
-    regroup a b c d = sym (simp append-assoc)
+    filled blockSize headerSize (header block) new (newBytesMost - length new) 4 (length-header block) (omega arith) (omega arith)
 
 -- and the check stored over the four zeros
 pub layout-stored : (block : Block) (new : List ℕ) (a b : ℕ) → length new ≤ newBytesMost

@@ -10,7 +10,7 @@ ghost use lib.ListN.{length};
 ghost use lib.Seq.{sets};
 ghost use Rattle.block.specs.Sizes.{newBytesMost};
 ghost use Rattle.block.specs.Kind.{fieldsOf};
-ghost use Rattle.block.specs.Layout.{header, layout};
+ghost use Rattle.block.specs.Layout.{middle, header, layout};
 
 // Where the new bytes start, and where the check does.
 pub const HEADER: usize = 36;
@@ -51,14 +51,10 @@ pub fn fields_of(kind: Kind) -> Fields
     }
 }
 
-// Sets bytes 0 to 35 of 512.
-fn put_header(b: &mut [u8; 512], block: Block)
-    ensures { λ _. ⌜ now (b .exit) ≡ sets (now (b .entry)) 0 (header block) ⌝ }
+// Sets bytes 16 to 27 of 512.
+fn put_middle(b: &mut [u8; 512], fields: Fields)
+    ensures { λ _. ⌜ now (b .exit) ≡ sets (now (b .entry)) 16 (middle fields) ⌝ }
 {
-    let kind = block.kind;
-    let fields = fields_of(kind);
-    number::put(b, 0, 8, block.sequence);
-    number::put(b, 8, 8, block.keep_from);
     number::put(b, 16, 1, fields.kind);
     number::put(b, 17, 1, 0);
     number::put(b, 18, 2, fields.index as u64);
@@ -66,6 +62,16 @@ fn put_header(b: &mut [u8; 512], block: Block)
     number::put(b, 22, 2, fields.offset as u64);
     number::put(b, 24, 2, fields.length as u64);
     number::put(b, 26, 2, 0);
+}
+
+// Sets bytes 0 to 35 of 512.
+fn put_header(b: &mut [u8; 512], block: Block)
+    ensures { λ _. ⌜ now (b .exit) ≡ sets (now (b .entry)) 0 (header block) ⌝ }
+{
+    let kind = block.kind;
+    number::put(b, 0, 8, block.sequence);
+    number::put(b, 8, 8, block.keep_from);
+    put_middle(b, fields_of(kind));
     number::put(b, 28, 8, block.ticket);
 }
 

@@ -1,7 +1,7 @@
 -- `check::check_of` meets its contract. The loop's invariant: what a and b lack of the two sums is in the bytes left, and neither is
 -- too great for 64 bits.
 -- Assumes nothing.
-use Prim.Native.Nat.{ℕ, _+_, _*_, _-_, _≤_, _<_}
+use Prim.Native.Nat.{_+_, _*_, _-_, _≤_, _<_}
 use mathlib.Core.Path.{_≡_}
 use lib.ListN.{length, getD, drop}
 use Rattle.block.specs.Check.{plain, weighted, modulus}

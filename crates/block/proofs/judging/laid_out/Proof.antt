@@ -1,8 +1,6 @@
 -- `judging::laid_out` meets its contract: its four tests are those of the layout.
 -- Assumes nothing.
-use mathlib.Core.Path.{_≡_, sym}
-use Prim.Native.Nat.{ℕ, _≤_}
-use lib.ListN.{length, take}
+use mathlib.Core.Path.{sym}
 use lib.Seq.{length-take-le}
 use Rattle.area.specs.Part.{part}
 use Rattle.block.specs.Sizes.{bodySize}

@@ -1,6 +1,6 @@
 -- `writing::built` meets its contract: zeros, the header, the new bytes copied behind it, the check over the last four zeros.
 -- Assumes nothing.
-use mathlib.Core.Path.{_≡_, sym, ap, _∙_}
+use mathlib.Core.Path.{_≡_, ap, _∙_}
 use mathlib.Core.List.{List, _++_}
 use Prim.Native.Nat.{ℕ, _+_, _-_}
 use lib.ListN.{length, take, replicate, length-append, length-take, length-drop}
@@ -19,6 +19,7 @@ use native.Mathlib.Omega.{arith}
 use Rattle.block.proofs.writing.built.Statement.{statement}
 use Rattle.block.proofs.writing.built.Tie as tie
 
+-- the array keeps its length
 head-long : (c : tie.After-put-header) → length (c .put-header .last .0) ≡ blockSize
 head-long c = ap length (c .put-header .ensures) ∙ simp length-sets
 
