@@ -1,0 +1,185 @@
+//! Keeps the book beside a run and asserts that every accepted call answers what the book says,
+//! and that an opening after each store and each cut is accepted and shows the book's pages.
+//! It panics where the model breaks its own book.
+//!
+//! Demand 3 speaks of lists of calls that start at a finished Format, at the same sizes, where
+//! nobody else writes state and areas. A script can leave these lists. The watch then is either
+//! given up (the log is no longer what the calls made of it) or out of step until the next
+//! opening (only the state is not what the last call left).
+
+use crate::block::{BLOCK_SIZE, MAX_UPDATE_LENGTH, PAGE_SIZE};
+use crate::book::Book;
+use crate::calls::{self, FreeChoice, Refusal};
+use crate::recovery::{self, RefusedOpening};
+use crate::script::{Counts, Store};
+use crate::state::State;
+
+pub struct Watch {
+    book: Book,
+    /// N at Format.
+    slots: u64,
+    /// P and F, known from the first opening at N slots that is not refused with 1.
+    pages_and_frames: Option<(u64, u64)>,
+    /// Whether the state in hand is the one that the book's calls left.
+    in_step: bool,
+}
+
+impl Watch {
+    /// The watch at the end of Format. Format gives no state, so an opening must come first.
+    pub fn new(slots: u64, home: &[u8]) -> Watch {
+        Watch {
+            book: Book::new(home),
+            slots,
+            pages_and_frames: None,
+            in_step: false,
+        }
+    }
+
+    pub fn open(
+        &mut self,
+        store: &Store,
+        answer: &Result<u64, RefusedOpening>,
+        counts: &mut Counts,
+    ) {
+        self.book.open_or_cut();
+        self.in_step = false;
+        if let Err(refused) = answer {
+            if refused.refusal == Refusal::WrongLength {
+                return;
+            }
+        }
+        let slots = (store.lent_log / BLOCK_SIZE) as u64;
+        let pages = (store.lent_home / PAGE_SIZE) as u64;
+        let frames = (store.lent_frames / PAGE_SIZE) as u64;
+        let known = *self.pages_and_frames.get_or_insert_with(|| (pages, frames));
+        if slots != self.slots || known != (pages, frames) {
+            // An opening at other sizes. It writes neither log nor home, so the book is still
+            // right about them.
+            return;
+        }
+        let ticket = answer.expect("demand 3: the opening is accepted");
+        assert_eq!(
+            ticket,
+            self.book.committed(),
+            "demand 3: the opening reports m"
+        );
+        for page in 0..pages {
+            let lent_home = &store.home[..store.lent_home];
+            let lent_frames = &store.frames[..store.lent_frames];
+            let shown = calls::read(&store.state, lent_home, lent_frames, page).unwrap();
+            assert!(
+                shown == self.book.page(page),
+                "demand 3: page {page} after an opening"
+            );
+        }
+        counts.book_openings += 1;
+        self.in_step = true;
+    }
+
+    pub fn begin(&mut self) {
+        if self.in_step {
+            self.book.begin();
+        }
+    }
+
+    pub fn describe(&mut self, page: u64, offset: u64, bytes: &[u8]) {
+        if self.in_step {
+            self.book.describe(page, offset, bytes);
+        }
+    }
+
+    pub fn end(&mut self, ticket: u64, counts: &mut Counts) {
+        if self.in_step {
+            assert_eq!(ticket, self.book.end(), "demand 3: the ticket of End");
+            counts.book_answers += 1;
+        }
+    }
+
+    /// Says whether the watch goes on.
+    pub fn log_step(&mut self, store: &Store, settled: Option<u64>, counts: &mut Counts) -> bool {
+        if !self.in_step {
+            return false;
+        }
+        assert_eq!(
+            settled,
+            self.book.log_step(),
+            "demand 3: the report of Log step"
+        );
+        counts.book_answers += 1;
+        self.try_opening(store, counts);
+        true
+    }
+
+    /// Says whether the watch goes on.
+    pub fn clean_step(&mut self, store: &Store, counts: &mut Counts) -> bool {
+        if !self.in_step {
+            return false;
+        }
+        self.try_opening(store, counts);
+        true
+    }
+
+    pub fn read(&mut self, page: u64, bytes: &[u8], counts: &mut Counts) {
+        if self.in_step {
+            assert!(
+                bytes == self.book.page(page),
+                "demand 3: Read of page {page}"
+            );
+            counts.book_answers += 1;
+        }
+    }
+
+    pub fn settled(&mut self, ticket: u64, yes: bool, counts: &mut Counts) {
+        if self.in_step {
+            assert_eq!(yes, ticket <= self.book.committed(), "demand 3: Settled");
+            counts.book_answers += 1;
+        }
+    }
+
+    pub fn cut(&mut self, store: &Store, counts: &mut Counts) {
+        self.book.open_or_cut();
+        self.in_step = false;
+        self.try_opening(store, counts);
+    }
+
+    /// The script sets the state's next. Demand 3 does not cover it. Where nothing in the log is
+    /// needed any more, a later next only leaves sequences out, and the book stays right; this
+    /// is how the book is kept up to the last sequence. Else the state is no longer the one that
+    /// the calls left.
+    pub fn next_is_set(&mut self, state: &State, next: u64) {
+        let log_is_not_needed = state.dirty.is_empty() && state.stored == 0;
+        if !(log_is_not_needed && next >= state.next) {
+            self.book.open_or_cut();
+            self.in_step = false;
+        }
+    }
+
+    /// What the next opening would answer if the power were cut now: over copies of log and
+    /// home, with anything in frames and staging.
+    fn try_opening(&self, store: &Store, counts: &mut Counts) {
+        let Some((pages, frame_count)) = self.pages_and_frames else {
+            return;
+        };
+        let log = store.log[..self.slots as usize * BLOCK_SIZE].to_vec();
+        let home = store.home[..pages as usize * PAGE_SIZE].to_vec();
+        let mut frames = vec![99; frame_count as usize * PAGE_SIZE];
+        let staging = vec![99; frame_count as usize * MAX_UPDATE_LENGTH];
+        let choice = FreeChoice::Highest;
+        let (state, answer) = recovery::open(&log, &home, &mut frames, &staging, choice);
+        let ticket = answer.expect("demand 3: an opening after a cut is accepted");
+        assert_eq!(
+            ticket,
+            self.book.committed(),
+            "demand 3: an opening after a cut reports m"
+        );
+        assert!(state.is_sound());
+        for page in 0..pages {
+            let shown = calls::read(&state, &home, &frames, page).unwrap();
+            assert!(
+                shown == self.book.page(page),
+                "demand 3: page {page} after a cut"
+            );
+        }
+        counts.book_openings += 1;
+    }
+}
