@@ -1,0 +1,171 @@
+-- What refusals and their absence tell: the tests of the code are those of the definitions, a refused call keeps its promise,
+-- and an accepted one knows what its change needs.
+-- Assumes nothing.
+use mathlib.Core.Path.{_≡_, refl, sym, _∙_}
+use mathlib.Core.Bool.{Bool, true, false, _&&_}
+use mathlib.Core.List.{List}
+use Prim.Native.Nat.{ℕ, _+_, _*_, _/_, _^_, _≤_, _<_}
+use native.Mathlib.Omega.{arith}
+use lib.Dec.{eqb, leb, ltb}
+use lib.ListN.{length}
+use lib.Seq.{length-take-le}
+use borrow.Author.Tests.{eqb-true, eqb-false, ltb-true}
+use Rattle.block.specs.Legal.{legalPlace}
+use Rattle.block.proofs.Tests.{not-passed, tests}
+use Rattle.promises.specs.declared.State.{State}
+use Rattle.promises.specs.declared.Refusal.{Refusal}
+use Rattle.promises.specs.declared.Answer.the-variants.{Refused}
+use Rattle.promises.specs.declared.Ended.the-variants.{Refused as EndRefused}
+use Rattle.promises.specs.declared.Standing.the-variants.{Refused as StandingRefused}
+use Rattle.promises.specs.Answers.{numberOf}
+use Rattle.promises.specs.Areas.{logFits}
+use Rattle.promises.specs.Updates.{Update}
+use Rattle.promises.specs.Contents.{total, groupsOf}
+use Rattle.promises.specs.Sums.{waitingBlocks}
+use Rattle.promises.specs.Sound.{sound}
+use Rattle.promises.specs.Format.{formatRefusal, Formats}
+use Rattle.promises.specs.Begin.{beginInRange, beginHasRoom, beginRefusal, Begins}
+use Rattle.promises.specs.Describe.{describeRefusal, Describes}
+use Rattle.promises.specs.End.{endRefusal, Ends}
+use Rattle.promises.specs.Settled.{settledRefusal, Settles}
+use Rattle.promises.specs.Read.{readRefusal}
+use Rattle.promises.proofs.Soundness.{Sound, sound-of}
+use Rattle.promises.proofs.Changes.{pick-zero, pick-other, groups-count}
+use Rattle.soundness.specs.declared.sums.Sums.{Sums}
+use Rattle.soundness.specs.Summed.{Summed}
+use Rattle.soundness.proofs.Counts.{reserved-is}
+
+-- ---- the tests
+
+and-assoc : (a b c : Bool) → (a && b && c) ≡ (a && (b && c))
+and-assoc true b c = refl
+and-assoc false b c = refl
+
+pub log-fits : (l : ℕ) → (eqb (l / 512 * 512) l && leb 8 (l / 512) && leb (l / 512) 1024) ≡ logFits l
+log-fits l = and-assoc (eqb (l / 512 * 512) l) (leb 8 (l / 512)) (leb (l / 512) 1024)
+
+pub out-of-range : (s : State) (u : ℕ) → 16 < u → false ≡ beginInRange s u
+out-of-range s u h = sym (not-passed (beginInRange s u) (λ t. let g = simp tests at t in omega arith))
+
+pub in-range-most : (s : State) (u : ℕ) → beginInRange s u ≡ true → u ≤ 16
+in-range-most s u t = let g = simp tests at t in omega arith
+
+module _ (s : State) (t : Sums) (u : ℕ) (h : Summed s t) where
+  pub sequences-law : leb (s .next + t .waiting + u + 1) (2 ^ 48) ≡ leb (s .next + waitingBlocks s + u + 1) (2 ^ 48)
+  sequences-law = rw (h .waiting)
+
+  pub room-law : (leb (t .held + t .waiting + t .dirty + t .queued + 2 * u + 1) (s .slots) && leb (t .dirty + t .queued + u) (s .frames)) ≡ beginHasRoom s u
+  room-law = rw (h .held, h .waiting, h .dirty, h .queued)
+
+-- ---- the refusals' numbers
+
+pub past-five : (n a : ℕ) → a ≤ n → (n ≡ a → ⊥) → (n ≡ a + 1 → ⊥) → (n ≡ a + 2 → ⊥) → (n ≡ a + 3 → ⊥) → (n ≡ a + 4 → ⊥) → a + 5 ≤ n
+past-five n a h p q r s t = omega arith
+
+pub eleven : (n : ℕ) → 11 ≤ n → n ≤ 11 → 11 ≡ n
+eleven n h k = omega arith
+
+-- ---- refused calls
+
+module _ (x : Refusal) (number : ℕ) (is : numberOf x ≡ number) (some : number ≡ 0 → ⊥) where
+  pub format-refused : (log : List ℕ) → number ≡ formatRefusal (length log) → Formats log (Refused x) log
+  format-refused log e = record { refusal = is ∙ e; refused = λ n. refl; accepted = λ z. absurd (some (e ∙ z)) }
+
+  pub begin-refused : (s : State) (u : ℕ) → number ≡ beginRefusal s u → Begins s u (record { state = s; answer = Refused x })
+  begin-refused s u e = record { refusal = is ∙ e; refused = λ n. refl; answerIs = λ z. absurd (some (e ∙ z)); leaves = λ z. absurd (some (e ∙ z)) }
+
+  pub describe-refused : (s : State) (update : Update) (staging : List ℕ)
+      → number ≡ describeRefusal s (length staging) (update .page) (update .offset) (length (update .bytes))
+      → Describes s update staging (record { state = s; answer = Refused x }) staging
+  describe-refused s update staging e = record { refusal = is ∙ e; refused = λ n. (refl, refl); accepted = λ z. absurd (some (e ∙ z)) }
+
+  pub end-refused : (s : State) → number ≡ endRefusal s → Ends s (record { state = s; answer = EndRefused x })
+  end-refused s e = record { refusal = is ∙ e; refused = λ n. refl; answerIs = λ z. absurd (some (e ∙ z)); leaves = λ z. absurd (some (e ∙ z)) }
+
+  pub settled-refused : (s : State) (ticket : ℕ) → number ≡ settledRefusal s ticket → Settles s ticket (StandingRefused x)
+  settled-refused s ticket e = record { refusal = is ∙ e; answerIs = λ z. absurd (some (e ∙ z)) }
+
+-- ---- accepted calls
+
+-- in a sound state the last ended ticket fits
+pub tickets-fit : (s : State) → length (s .groups) ≡ 32 → sound s ≡ true → s .ticket + s .queued ≤ 2 ^ 49
+tickets-fit s long h = let f : Sound s = sound-of s h in omega (arith, f .ticket, f .sequenceSum, f .queued)
+
+-- the queue has a place for one group more
+pub record Closable (s : State) : Type 0 where
+  pub queued : s .queued < 32
+  pub described : s .described ≤ 16
+  pub tickets : s .ticket + s .queued ≤ 2 ^ 49
+
+pub closable : (s : State) → length (s .groups) ≡ 32 → endRefusal s ≡ 0 → Closable s
+unfolding endRefusal
+closable s long e =
+    let c2 = pick-zero (sound s) _ 2 (omega arith) e in
+    let c4 = pick-other (eqb (s .reserved) 0) _ 4 (omega arith) (c2 .1) in
+    let f : Sound s = sound-of s (c2 .0) in
+    let n : s .reserved ≡ 0 → ⊥ = eqb-false _ _ (c4 .0) in
+    let k : length (groupsOf s) ≡ s .queued = length-take-le (s .queued) (s .groups) (f .queued) in
+    let g = groups-count (groupsOf s) (f .groups) in
+    record {
+      queued = omega (arith, f .frameSum, f .frames, reserved-is s);
+      described = omega (arith, f .described, f .reserved);
+      tickets = tickets-fit s long (c2 .0);
+    }
+
+-- there is room for one update more, and its numbers fit
+pub record Describable (s : State) (staging page offset count : ℕ) : Type 0 where
+  pub waiting : total (groupsOf s) + s .described < s .frames
+  pub frames : s .frames ≤ 32
+  pub queued : s .queued ≤ 32
+  pub staging-long : staging ≡ s .frames * 472
+  pub page-fits : page < 4096
+  pub offset-fits : offset + count ≤ 1024
+  pub count-fits : count ≤ 472
+
+pub describable : (s : State) (staging page offset count : ℕ) → length (s .groups) ≡ 32 → describeRefusal s staging page offset count ≡ 0
+    → Describable s staging page offset count
+unfolding describeRefusal
+describable s staging page offset count long e =
+    let c2 = pick-zero (sound s) _ 2 (omega arith) e in
+    let c1 = pick-zero (eqb staging (s .frames * 472)) _ 1 (omega arith) (c2 .1) in
+    let c4 = pick-other (eqb (s .reserved) 0) _ 4 (omega arith) (c1 .1) in
+    let c3 = pick-zero (legalPlace (s .pages) page offset count) _ 3 (omega arith) (c4 .1) in
+    let c5 = pick-zero (ltb (s .described) (s .reserved)) 0 5 (omega arith) (c3 .1) in
+    let f : Sound s = sound-of s (c2 .0) in
+    let more : s .described < s .reserved = ltb-true _ _ (c5 .0) in
+    let l = simp tests at (c3 .0) in
+    record {
+      waiting = omega (arith, f .frameSum, reserved-is s);
+      frames = f .frames .1;
+      queued = omega (arith, f .queued);
+      staging-long = eqb-true _ _ (c1 .0);
+      page-fits = omega (arith, f .pages);
+      offset-fits = omega arith;
+      count-fits = omega arith;
+    }
+
+-- the areas are as long as the state says, and the page is one of home's
+pub record Readable (s : State) (home frames page : ℕ) : Type 0 where
+  pub sounds : sound s ≡ true
+  pub home-long : home ≡ s .pages * 1024
+  pub frames-long : frames ≡ s .frames * 1024
+  pub page-below : page < s .pages
+  pub pages-most : s .pages ≤ 4096
+  pub frames-most : s .frames ≤ 32
+
+pub readable : (s : State) (home frames page : ℕ) → readRefusal s home frames page ≡ 0 → Readable s home frames page
+unfolding readRefusal
+readable s home frames page e =
+    let c2 = pick-zero (sound s) _ 2 (omega arith) e in
+    let c1 = pick-zero (eqb home (s .pages * 1024) && eqb frames (s .frames * 1024)) _ 1 (omega arith) (c2 .1) in
+    let c3 = pick-zero (ltb page (s .pages)) 0 3 (omega arith) (c1 .1) in
+    let l = simp tests at (c1 .0) in
+    let f : Sound s = sound-of s (c2 .0) in
+    record {
+      sounds = c2 .0;
+      home-long = l .0;
+      frames-long = l .1;
+      page-below = ltb-true _ _ (c3 .0);
+      pages-most = f .pages .1;
+      frames-most = f .frames .1;
+    }

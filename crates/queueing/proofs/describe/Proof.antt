@@ -1,0 +1,103 @@
+-- `describe` meets its contract.
+-- Assumes nothing.
+use mathlib.Core.Path.{_≡_, sym, ap, _∙_}
+use Prim.Native.Nat.{ℕ, _+_}
+use lib.ListN.{length, take}
+use denote.Ref.{now}
+use Rattle.promises.specs.Contents.{total, groupsOf}
+use Rattle.promises.specs.Sound.{member, areasOf}
+use Rattle.promises.specs.Describe.{describeRefusal}
+use Rattle.soundness.proofs.Scans.{length-mapped}
+use Rattle.queueing.specs.Queueing.{updateOf}
+use Rattle.queueing.proofs.Refusals.{Describable, describable, describe-refused}
+use Rattle.queueing.proofs.Places.{describe-done}
+use borrow.Author.Needs.{needs}
+use native.Mathlib.Omega.{arith}
+use Rattle.queueing.proofs.describe.Statement.{statement}
+use Rattle.queueing.proofs.describe.Tie as tie
+
+groups-long : (c : tie.Start) → length (c .args .state .groups) ≡ 32
+groups-long c = search needs
+
+staged-long : (c : tie.Start) → length (c .args .state .staged) ≡ 32
+staged-long c = search (needs, length-mapped)
+
+accepted-at : (c : tie.Else1) → let args = c .before .before .before .before .args in describeRefusal (args .state) (length (now (args .staging))) (args .page) (args .offset) (length (now (args .bytes))) ≡ 0
+accepted-at c = sym (c .before .describe-refusal .ensures .0) ∙ c .if1 .left
+
+describable-at : (c : tie.Else1) → let args = c .before .before .before .before .args in Describable (args .state) (length (now (args .staging))) (args .page) (args .offset) (length (now (args .bytes)))
+describable-at c = describable _ _ _ _ _ (groups-long (c .before .before .before .before)) (accepted-at c)
+
+describe-refusal-requires : tie.Need-describe-refusal-requires
+describe-refusal-requires c κs = search needs
+
+refusal-of-requires : tie.Need-refusal-of-requires
+refusal-of-requires c κs = search needs
+
+returns : tie.Need-returns
+returns c =
+    let args = c .before .before .before .before .before .args in
+    describe-refused (c .refusal-of .result) (c .before .before .describe-refusal .result) (c .refusal-of .ensures) (c .before .if1 .taken) (args .state)
+    (updateOf (args .page) (args .offset) (now (args .bytes))) (now (args .staging)) (c .before .before .describe-refusal .ensures .0)
+
+queued-updates-requires : tie.Need-queued-updates-requires
+queued-updates-requires c κs = describable-at c .queued
+
+add-count : tie.Need-add-count
+add-count c = let k = describable-at (c .before .before) in omega (arith, c .before .queued-updates .ensures .0)
+
+free-area-requires : tie.Need-free-area-requires
+free-area-requires c κs = let k = describable-at (c .before .before) in omega (arith, c .before .queued-updates .ensures .0)
+
+byte-requires : tie.Need-byte-requires
+byte-requires c κs = search needs
+
+mul-start : tie.Need-mul-start
+mul-start c = search needs
+
+copy-part-requires : tie.Need-copy-part-requires
+copy-part-requires c κs = let k = describable-at (c .before .before .before .before .before) in omega (arith, c .before .byte .ensures, c .before .before .free-area .ensures .0)
+
+cast-t20 : tie.Need-cast-t20
+cast-t20 c = let k = describable-at (c .before .before .before .before .before .before .before .before) in omega arith
+
+cast-t21 : tie.Need-cast-t21
+cast-t21 c = let k = describable-at (c .before .before .before .before .before .before .before .before) in omega arith
+
+cast-t22 : tie.Need-cast-t22
+cast-t22 c = let k = describable-at (c .before .before .before .before .before .before .before .before) in omega arith
+
+added-requires : tie.Need-added-requires
+added-requires c κs = let k = describable-at (c .before .before .before .before .before .before .before .before) in let q = c .before .before .before .before .before .before .before .queued-updates .ensures .0 in (ap (λ (n : ℕ). n + c .before .before .before .before .before .before .before .before .before .before .before .before .args .state .described) q, omega arith)
+
+same-length : tie.Need-same-length
+same-length c = search needs
+
+returns-2 : tie.Need-returns-2
+returns-2 c =
+    let args = c .before .before .before .before .before .before .before .before .before .before .before .before .before .args in
+    let free = c .before .before .before .before .before .before .free-area .ensures in
+    let counted : total (groupsOf (args .state)) + args .state .described ≡ c .before .before .before .before .before .before .before .before .queued-updates .result + args .state .described = sym (ap (λ (n : ℕ). n + args .state .described) (c .before .before .before .before .before .before .before .before .queued-updates .ensures .0)) in
+    describe-done (args .state) (args .page) (args .offset) (c .before .before .before .before .before .before .free-area .result) (c .before .before .before .before .before .byte .result) (now (args .bytes)) (now (args .staging)) _ (c .added .result)
+    (staged-long (c .before .before .before .before .before .before .before .before .before .before .before .before .before)) (accepted-at (c .before .before .before .before .before .before .before .before .before)) (free .0) (ap (λ (n : ℕ). member (c .before .before .before .before .before .before .free-area .result) (areasOf (take n (args .state .staged)))) counted ∙ free .1)
+    (c .added .ensures) (c .before .before .before .before .before .byte .ensures) (c .before .before .before .copy-part .ensures)
+
+pub describe-spec : {M : Type 1} → statement M
+describe-spec =
+    tie.close
+    (tie.spec
+    describe-refusal-requires
+    refusal-of-requires
+    returns
+    queued-updates-requires
+    add-count
+    free-area-requires
+    byte-requires
+    mul-start
+    copy-part-requires
+    cast-t20
+    cast-t21
+    cast-t22
+    added-requires
+    same-length
+    returns-2)

@@ -1,0 +1,117 @@
+-- The tests of the code, taken together, are soundness.
+-- Assumes nothing.
+use mathlib.Core.Path.{_≡_, sym}
+use mathlib.Core.Bool.{Bool, true, false, _&&_}
+use Prim.Native.Nat.{ℕ, _+_, _≤_}
+use native.Mathlib.Omega.{arith}
+use native.Mathlib.Nat.{sub-zero}
+use lib.ListN.{length, take}
+use borrow.Author.Tests.{leb-true, ltb-true, le-leb, lt-ltb}
+use Rattle.block.proofs.Tests.{never-both, not-passed, bool-ext}
+use Rattle.promises.specs.declared.State.{State}
+use Rattle.promises.specs.Contents.{total, groupsOf}
+use Rattle.promises.specs.Sums.{framesTaken, reservedUpdates}
+use Rattle.promises.specs.Sound.{sizesLegal, ofOldest, stagedOf, ticketSound, slotSumSound, frameSumSound, sequenceSumSound, cleaningSound, sound}
+use Rattle.promises.proofs.Soundness.{and-both, and2, Sound, sound-of, of-sound}
+use Rattle.soundness.specs.Tests.{inRange, fitting, countsLegal, entriesLegal, waitingLegal}
+use Rattle.soundness.proofs.Counts.{InRange, range-of, of-range, reserved-is}
+use Rattle.soundness.proofs.Entries.{Entries, entries-of, of-entries, Waiting, waiting-of, of-waiting}
+
+-- what the counts' tests tell
+pub record Counted (s : State) : Type 0 where
+  pub range : InRange s
+  pub groups : sizesLegal (groupsOf s) ≡ true
+  pub stored : ofOldest (s .stored) (groupsOf s) ≡ true
+  pub ticket : ticketSound s ≡ true
+  pub slotSum : slotSumSound s ≡ true
+  pub frameSum : frameSumSound s ≡ true
+  pub sequenceSum : sequenceSumSound s ≡ true
+
+pub counted : (s : State) → countsLegal s ≡ true → Counted s
+unfolding countsLegal
+counted s h =
+    let a2 = and-both (inRange s && (sizesLegal (groupsOf s) && ofOldest (s .stored) (groupsOf s))) (fitting s) h in
+    let a1 = and-both (inRange s) (sizesLegal (groupsOf s) && ofOldest (s .stored) (groupsOf s)) (a2 .0) in
+    let g = and-both (sizesLegal (groupsOf s)) (ofOldest (s .stored) (groupsOf s)) (a1 .1) in
+    let f3 = and-both (ticketSound s && slotSumSound s && frameSumSound s) (sequenceSumSound s) (a2 .1) in
+    let f2 = and-both (ticketSound s && slotSumSound s) (frameSumSound s) (f3 .0) in
+    let f1 = and-both (ticketSound s) (slotSumSound s) (f2 .0) in
+    record { range = range-of s (a1 .0); groups = g .0; stored = g .1; ticket = f1 .0; slotSum = f1 .1; frameSum = f2 .1; sequenceSum = f3 .1 }
+
+-- the updates that wait have their place in the state
+pub waiting-few : (s : State) → countsLegal s ≡ true → total (groupsOf s) + s .described ≤ 32
+waiting-few s h =
+    let k = counted s h in
+    let r = k .range in
+    omega (arith, leb-true (framesTaken s + reservedUpdates s) (s .frames) (k .frameSum), reserved-is s)
+
+pub counts-of : (s : State) → length (s .groups) ≡ 32 → Sound s → countsLegal s ≡ true
+unfolding countsLegal
+counts-of s long f =
+    let range : InRange s = record {
+      slots = f .slots;
+      pages = f .pages;
+      frames = f .frames;
+      queued = omega (arith, f .queued);
+      reserved = f .reserved;
+      described = f .described;
+      next = omega (arith, f .sequenceSum);
+      stored = omega (arith, f .ticket);
+    } in
+    and2 (and2 (of-range s range) (and2 (f .groups) (f .stored)))
+    (and2 (and2 (and2 (lt-ltb _ _ (f .ticket)) (le-leb _ _ (f .slotSum))) (le-leb _ _ (f .frameSum))) (le-leb _ _ (f .sequenceSum)))
+
+module _ (s : State) (groups-long : length (s .groups) ≡ 32) (staged-long : length (s .staged) ≡ 32) where
+  -- counts that fail refuse the state
+  pub unsound : countsLegal s ≡ false → false ≡ sound s
+  unsound e = sym (not-passed (sound s) (λ t. never-both (countsLegal s) (counts-of s groups-long (sound-of s t)) e))
+
+  abbrev arrays : Bool
+  arrays = entriesLegal (s .pages) (s .frames) (s .next) 0 (s .dirty) && waitingLegal (s .pages) (s .frames) (stagedOf s) && cleaningSound s
+
+  to-sound : countsLegal s ≡ true → arrays ≡ true → Sound s
+  to-sound h a =
+      let k = counted s h in
+      let r = k .range in
+      let a2 = and-both (entriesLegal (s .pages) (s .frames) (s .next) 0 (s .dirty) && waitingLegal (s .pages) (s .frames) (stagedOf s)) (cleaningSound s) a in
+      let a1 = and-both (entriesLegal (s .pages) (s .frames) (s .next) 0 (s .dirty)) (waitingLegal (s .pages) (s .frames) (stagedOf s)) (a2 .0) in
+      let e = entries-of (s .pages) (s .frames) (s .next) 0 (s .dirty) (a1 .0) in
+      let w = waiting-of (s .pages) (s .frames) (stagedOf s) (a1 .1) in
+      record {
+        pages = r .pages;
+        slots = r .slots;
+        frames = r .frames;
+        distinctPages = e .distinctPages;
+        pagesBelow = e .pagesBelow;
+        framesBelow = rw sub-zero at (e .framesBelow);
+        firstsBelow = e .firstsBelow;
+        ticket = ltb-true _ _ (k .ticket);
+        distinctAreas = w .distinctAreas;
+        areasBelow = w .areasBelow;
+        places = w .places;
+        groups = k .groups;
+        queued = omega (arith, r .queued);
+        staged = omega (arith, waiting-few s h);
+        reserved = r .reserved;
+        described = r .described;
+        stored = k .stored;
+        cleaning = a2 .1;
+        slotSum = leb-true _ _ (k .slotSum);
+        frameSum = leb-true _ _ (k .frameSum);
+        sequenceSum = leb-true _ _ (k .sequenceSum);
+      }
+
+  from-sound : Sound s → arrays ≡ true
+  from-sound f =
+      let e : Entries (s .pages) (s .frames) (s .next) 0 (s .dirty) = record { distinctPages = f .distinctPages; pagesBelow = f .pagesBelow; framesBelow = rw sub-zero (f .framesBelow); firstsBelow = f .firstsBelow } in
+      let w : Waiting (s .pages) (s .frames) (stagedOf s) = record { distinctAreas = f .distinctAreas; areasBelow = f .areasBelow; places = f .places } in
+      and2 (and2 (of-entries (s .pages) (s .frames) (s .next) 0 (s .dirty) e) (of-waiting (s .pages) (s .frames) (stagedOf s) w)) (f .cleaning)
+
+  arrays-decide : countsLegal s ≡ true → arrays ≡ sound s
+  arrays-decide h = bool-ext arrays (sound s) (λ a. of-sound s (to-sound h a)) (λ t. from-sound (sound-of s t))
+
+  -- counts that pass leave the arrays to decide; the code counts V and the updates described
+  pub decided : countsLegal s ≡ true → (queued : ℕ) (pages staged cleaning : Bool) → queued ≡ total (groupsOf s)
+      → pages ≡ entriesLegal (s .pages) (s .frames) (s .next) 0 (s .dirty) → staged ≡ waitingLegal (s .pages) (s .frames) (take (queued + s .described) (s .staged))
+      → cleaning ≡ cleaningSound s → (pages && staged && cleaning) ≡ sound s
+  decided h queued pages staged cleaning q p w c = rw (p, w, c, q) (arrays-decide h)

@@ -1,0 +1,4 @@
+pub mod Scans
+pub mod Counts
+pub mod Entries
+pub mod Decided

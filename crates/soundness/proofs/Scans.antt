@@ -1,0 +1,158 @@
+-- What a scan of the state's arrays tells at each turn: what is left to see, and how a definition over it goes on.
+-- Assumes nothing.
+use mathlib.Core.Path.{_≡_, refl, sym, ap, _∙_}
+use mathlib.Core.Bool.{Bool, true, false, not, _&&_, _||_}
+use mathlib.Core.List.{List, [], _∷_, map}
+use Prim.Native.Nat.{ℕ, zero, suc, _+_, _≤_, _<_, min}
+use native.Mathlib.Omega.{arith}
+use native.Mathlib.Numerals.{add-one}
+use lib.Dec.{eqb, leb, ltb}
+use lib.ListN.{length, take, drop, getD, length-map, drop-of-length-le}
+use lib.Seq.{drop-cons, getD-take, length-take-le}
+use borrow.Author.Tests.{eqb-true, eqb-false, ltb-true, ltb-false, eq-eqb, ne-eqb, not-true}
+use Rattle.block.proofs.Tests.{by-cases}
+use Rattle.promises.proofs.Soundness.{and-both}
+use Rattle.promises.proofs.Changes.{smallest-le}
+use Rattle.promises.specs.declared.Dirty.{Dirty}
+use Rattle.promises.specs.declared.Staged.{Staged}
+use Rattle.promises.specs.Contents.{unless, total}
+use Rattle.promises.specs.Sums.{firstGroups, smallest, blockCount}
+use Rattle.promises.specs.Sound.{member, dirtyNumbers, ofOldest}
+use Rattle.promises.proofs.Table.{free}
+use Rattle.soundness.specs.Tests.{entryLegal, entriesLegal, noStaged, stagedLegal, waitingLegal}
+
+-- the length of an array of structs in a struct, as owning the struct tells it: `search (needs, length-mapped)` finds the premise
+pub length-mapped : (X Y : Type 0) (f : X → Y) (l : List X) (n : ℕ) → length (map f l) ≡ n → length l ≡ n
+length-mapped X Y f l n h = sym (length-map l f) ∙ h
+
+-- ---- what is left of a list, and of its first n elements
+module _ {A : Type 0} where
+  pub from-cons : (l : List A) (i : ℕ) (d : A) → i < length l → drop i l ≡ getD l i d ∷ drop (i + 1) l
+  from-cons l i d h = rw (add-one, drop-cons l i d h)
+
+  pub rest-cons : (l : List A) (n i : ℕ) (d : A) → i < n → n ≤ length l → drop i (take n l) ≡ getD l i d ∷ drop (i + 1) (take n l)
+  rest-cons l n i d h k =
+      let e : length (take n l) ≡ n = length-take-le n l k in
+      rw (add-one, drop-cons (take n l) i d (omega arith), getD-take n l i d h)
+
+  pub rest-end : (l : List A) (n i : ℕ) → n ≤ i → n ≤ length l → drop i (take n l) ≡ []
+  rest-end l n i h k =
+      let e : length (take n l) ≡ n = length-take-le n l k in
+      let f : length (take n l) ≤ i = omega arith in
+      drop-of-length-le (take n l) f
+
+-- ---- dirty pages
+
+numbers-turn : (page : ℕ) (entry : Dirty) (later : List Dirty)
+    → member page (dirtyNumbers (entry ∷ later)) ≡ ((not (eqb (entry .first) 0) && eqb page (entry .page)) || member page (dirtyNumbers later))
+unfolding dirtyNumbers
+numbers-turn page entry later = go (eqb (entry .first) 0)
+  where
+    go : (b : Bool) → member page (unless b (entry .page) (dirtyNumbers later)) ≡ ((not b && eqb page (entry .page)) || member page (dirtyNumbers later))
+    go true = refl
+    go false = refl
+
+module _ (entries : List Dirty) (i : ℕ) where
+  pub page-turn : (page : ℕ) → i < length entries
+      → member page (dirtyNumbers (drop i entries))
+      ≡ ((not (eqb (getD entries i free .first) 0) && eqb page (getD entries i free .page)) || member page (dirtyNumbers (drop (i + 1) entries)))
+  page-turn page h = ap (λ (l : List Dirty). member page (dirtyNumbers l)) (from-cons entries i free h) ∙ numbers-turn page (getD entries i free) (drop (i + 1) entries)
+
+  pub page-found : (page : ℕ) → i < length entries → (not (eqb (getD entries i free .first) 0) && eqb page (getD entries i free .page)) ≡ true
+      → member page (dirtyNumbers (drop i entries)) ≡ true
+  page-found page h e = page-turn page h ∙ rw e
+
+  pub page-passed : (page : ℕ) → i < length entries → (not (eqb (getD entries i free .first) 0) && eqb page (getD entries i free .page)) ≡ false
+      → member page (dirtyNumbers (drop i entries)) ≡ member page (dirtyNumbers (drop (i + 1) entries))
+  page-passed page h e = page-turn page h ∙ rw e
+
+  pub page-end : (page : ℕ) → length entries ≤ i → member page (dirtyNumbers (drop i entries)) ≡ false
+  unfolding dirtyNumbers
+  page-end page h = rw (drop-of-length-le entries h)
+
+  -- the first groups that are left
+  pub firsts-more : i < length entries → (getD entries i free .first ≡ 0 → ⊥) → firstGroups (drop i entries) ≡ getD entries i free .first ∷ firstGroups (drop (i + 1) entries)
+  unfolding firstGroups
+  firsts-more h n = rw (from-cons entries i free h, ne-eqb _ 0 n)
+
+  pub firsts-same : i < length entries → getD entries i free .first ≡ 0 → firstGroups (drop i entries) ≡ firstGroups (drop (i + 1) entries)
+  unfolding firstGroups
+  firsts-same h e = rw (from-cons entries i free h, eq-eqb _ 0 e)
+
+  pub firsts-end : length entries ≤ i → firstGroups (drop i entries) ≡ []
+  unfolding firstGroups
+  firsts-end h = rw (drop-of-length-le entries h)
+
+smallest-min : (a x : ℕ) (xs : List ℕ) → smallest (min x a) xs ≡ min x (smallest a xs)
+smallest-min a x [] = refl
+smallest-min a x (y ∷ ys) = omega (arith, smallest-min a x ys)
+
+-- the oldest so far, at a turn of the search
+module _ (entries : List Dirty) (i low : ℕ) (h : i < length entries) where
+  abbrev test : Bool
+  test = not (eqb (getD entries i free .first) 0) && ltb (getD entries i free .first) low
+
+  pub oldest-lower : test ≡ true → smallest (getD entries i free .first) (firstGroups (drop (i + 1) entries)) ≡ smallest low (firstGroups (drop i entries))
+  oldest-lower e =
+      let both = and-both (not (eqb (getD entries i free .first) 0)) (ltb (getD entries i free .first) low) e in
+      let some : getD entries i free .first ≡ 0 → ⊥ = eqb-false _ _ (not-true _ (both .0)) in
+      let less : getD entries i free .first < low = ltb-true _ _ (both .1) in
+      let same : getD entries i free .first ≡ min (getD entries i free .first) low = omega arith in
+      ap (λ (a : ℕ). smallest a (firstGroups (drop (i + 1) entries))) same
+      ∙ smallest-min low (getD entries i free .first) (firstGroups (drop (i + 1) entries))
+      ∙ sym (ap (smallest low) (firsts-more entries i h some))
+
+  pub lower-of : test ≡ true → getD entries i free .first < low
+  lower-of e = ltb-true _ _ (and-both (not (eqb (getD entries i free .first) 0)) (ltb (getD entries i free .first) low) e .1)
+
+  pub oldest-stays : test ≡ false → smallest low (firstGroups (drop (i + 1) entries)) ≡ smallest low (firstGroups (drop i entries))
+  oldest-stays e =
+      by-cases (eqb (getD entries i free .first) 0)
+      (λ t. sym (ap (smallest low) (firsts-same entries i h (eqb-true _ _ t))))
+      (λ t. let more : low ≤ getD entries i free .first = ltb-false _ _ (second t) in
+      let least = smallest-le low (firstGroups (drop (i + 1) entries)) in
+      let same : smallest low (firstGroups (drop (i + 1) entries)) ≡ min (getD entries i free .first) (smallest low (firstGroups (drop (i + 1) entries))) = omega arith in
+      same ∙ sym (ap (smallest low) (firsts-more entries i h (eqb-false _ _ t))))
+    where
+      second : eqb (getD entries i free .first) 0 ≡ false → ltb (getD entries i free .first) low ≡ false
+      second t = let u : (not (eqb (getD entries i free .first) 0) && ltb (getD entries i free .first) low) ≡ false = e in rw t at u
+
+-- ---- the queue
+
+-- what is stored is of the oldest group
+pub oldest-none : (stored queued : ℕ) (groups : List ℕ) → queued ≡ 0 → eqb stored 0 ≡ ofOldest stored (take queued groups)
+oldest-none stored queued groups e = rw e
+
+pub oldest-some : (stored queued : ℕ) (groups : List ℕ) (size : ℕ) → (queued ≡ 0 → ⊥) → 0 < length groups → size ≡ getD groups 0 0
+    → leb stored size ≡ ofOldest stored (take queued groups)
+oldest-some stored zero groups size n h e = absurd (n refl)
+oldest-some stored (suc queued) [] size n h e = absurd (omega arith)
+oldest-some stored (suc queued) (x ∷ groups) size n h e = rw e
+
+pub blocks-total : (sizes : List ℕ) → blockCount sizes ≡ total sizes + length sizes
+blocks-total [] = omega arith
+blocks-total (n ∷ ns) = omega (arith, blocks-total ns)
+
+-- ---- entry by entry
+
+module _ (pages frames next : ℕ) (entries : List Dirty) (i : ℕ) where
+  pub entries-turn : i < length entries
+      → entriesLegal pages frames next i (drop i entries)
+      ≡ (entryLegal pages frames next i (getD entries i free) (drop (i + 1) entries) && entriesLegal pages frames next (i + 1) (drop (i + 1) entries))
+  unfolding entriesLegal
+  entries-turn h = rw (from-cons entries i free h, add-one)
+
+  pub entries-end : length entries ≤ i → entriesLegal pages frames next i (drop i entries) ≡ true
+  unfolding entriesLegal
+  entries-end h = rw (drop-of-length-le entries h)
+
+module _ (pages frames : ℕ) (staged : List Staged) (count i : ℕ) (fits : count ≤ length staged) where
+  pub waiting-turn : i < count
+      → waitingLegal pages frames (drop i (take count staged))
+      ≡ (stagedLegal pages frames (getD staged i noStaged) (drop (i + 1) (take count staged)) && waitingLegal pages frames (drop (i + 1) (take count staged)))
+  unfolding waitingLegal
+  waiting-turn h = rw (rest-cons staged count i noStaged h fits)
+
+  pub waiting-end : count ≤ i → waitingLegal pages frames (drop i (take count staged)) ≡ true
+  unfolding waitingLegal
+  waiting-end h = rw (rest-end staged count i h fits)

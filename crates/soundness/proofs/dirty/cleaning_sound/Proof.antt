@@ -1,0 +1,54 @@
+-- `dirty::cleaning_sound` meets its contract, store by store.
+-- Assumes nothing.
+use borrow.Author.Needs.{needs}
+use Rattle.soundness.proofs.dirty.cleaning_sound.Statement.{statement}
+use Rattle.soundness.proofs.dirty.cleaning_sound.Tie as tie
+
+enum-told : tie.Need-enum-told
+enum-told c = search needs
+
+enum-known-cleaning : tie.Need-enum-known-cleaning
+enum-known-cleaning c = search needs
+
+page-from-requires : tie.Need-page-from-requires
+page-from-requires c κs = search needs
+
+enum-known-cleaning-2 : tie.Need-enum-known-cleaning-2
+enum-known-cleaning-2 c = search needs
+
+page-from-requires-2 : tie.Need-page-from-requires-2
+page-from-requires-2 c κs = search needs
+
+enum-known-cleaning-3 : tie.Need-enum-known-cleaning-3
+enum-known-cleaning-3 c = search needs
+
+page-from-requires-3 : tie.Need-page-from-requires-3
+page-from-requires-3 c κs = search needs
+
+returns : tie.Need-returns
+returns c = simp (c .enum-told .given .1)
+
+returns-2 : tie.Need-returns-2
+returns-2 c = simp (c .before .before .cleaning .given .1) (c .page-from .ensures)
+
+returns-3 : tie.Need-returns-3
+returns-3 c = simp (c .before .before .cleaning2 .given .1) (c .page-from2 .ensures)
+
+returns-4 : tie.Need-returns-4
+returns-4 c = simp (c .before .before .cleaning3 .given .1) (c .page-from3 .ensures)
+
+pub cleaning-sound-spec : {M : Type 1} → statement M
+cleaning-sound-spec =
+    tie.close
+    (tie.spec
+    enum-told
+    enum-known-cleaning
+    page-from-requires
+    enum-known-cleaning-2
+    page-from-requires-2
+    enum-known-cleaning-3
+    page-from-requires-3
+    returns
+    returns-2
+    returns-3
+    returns-4)
