@@ -3,15 +3,15 @@
 -- Assumes nothing.
 use mathlib.Core.Path.{_≡_, refl, sym, ap, _∙_}
 use mathlib.Core.Bool.{Bool, true, false, _&&_}
-use mathlib.Core.List.{List}
+use mathlib.Core.List.{List, _++_}
 use Prim.Native.Nat.{ℕ, _+_, _-_, _≤_, _<_}
 use native.Mathlib.Omega.{arith}
 use native.Mathlib.Numerals.{add-one}
 use lib.Dec.{leb, ltb, eqb}
-use lib.ListN.{length, getD, drop, drop-of-length-le}
+use lib.ListN.{length, getD, drop, replicate, drop-of-length-le}
 use lib.Seq.{drop-cons}
 use borrow.Author.Tests.{eq-eqb, ne-eqb, le-leb, lt-leb}
-use Rattle.area.proofs.Parts.{either}
+use Rattle.area.proofs.Parts.{either, length-part, part-append}
 use Rattle.area.specs.Part.{part}
 use Rattle.block.specs.Sizes.{blockSize, newBytesMost, pageSize, sequenceEnd, headerSize, bodySize}
 use Rattle.block.specs.Check.{checkA, checkB, modulus}
@@ -25,7 +25,7 @@ use Rattle.block.specs.declared.Kind.{Kind}
 use Rattle.block.specs.declared.Kind.the-variants.{Update, Commit, Clean}
 use Rattle.block.specs.declared.Judged.the-variants.{Unused, Damaged, Valid}
 use Rattle.block.proofs.Numbers.{Bytes}
-use Rattle.block.proofs.Tests.{tests, and-iff}
+use Rattle.block.proofs.Tests.{tests, and-iff, allZero-zeros}
 use Rattle.block.proofs.Laid.{laid, sameFields, reserved}
 
 -- ---- all bytes are zero
@@ -138,12 +138,45 @@ module _ (slots pages place : ℕ) (bytes : List ℕ) (block : Block) where
   unfolding judged
   judged-damaged passed h e v t = let w = rw e at (sym v ∙ t) in rw (h, w)
 
+-- after a test that failed the rest does not count
+no-more : (t u v : Bool) → (t && false && u) ≡ (t && false && v)
+no-more true u v = refl
+no-more false u v = refl
+
+-- what a slot's check sums, where the padding is zero: the bytes before the padding, and zeros
+body-blank : (bytes : List ℕ) (count : ℕ) → length bytes ≡ blockSize → count ≤ newBytesMost
+    → allZero (part bytes (headerSize + count) (bodySize - (headerSize + count))) ≡ true
+    → part bytes 0 bodySize ≡ part bytes 0 (headerSize + count) ++ replicate (bodySize - (headerSize + count)) 0
+body-blank bytes count long most z =
+    let n : ℕ = headerSize + count in
+    let e : n + (bodySize - n) ≡ bodySize = omega arith in
+    let o : 0 + n ≡ n = omega arith in
+    let k : length (part bytes n (bodySize - n)) ≡ bodySize - n = length-part bytes n (bodySize - n) (omega arith) in
+    ap (part bytes 0) (sym e)
+    ∙ sym (part-append bytes 0 n (bodySize - n))
+    ∙ ap (λ (i : ℕ). part bytes 0 n ++ part bytes i (bodySize - n)) o
+    ∙ ap (λ (l : List ℕ). part bytes 0 n ++ l) (allZero-zeros (part bytes n (bodySize - n)) z)
+    ∙ ap (λ (i : ℕ). part bytes 0 n ++ replicate i 0) k
+
 -- the four tests of a slot, each by what it was computed from
 pub laid-by : (bytes : List ℕ) (count : ℕ) (block : Block) (at of : Fields) (told padding : Bool) (x y a b : ℕ)
     → length bytes ≡ blockSize → Bytes bytes → count ≡ lengthOf (block .kind) → count ≤ newBytesMost → block ≡ blockAt bytes
     → told ≡ sameFields at of → at ≡ fieldsAt bytes → of ≡ fieldsOf (block .kind)
     → padding ≡ allZero (part bytes (headerSize + count) (bodySize - (headerSize + count)))
-    → x ≡ numberAt bytes 508 2 → y ≡ numberAt bytes 510 2 → a ≡ checkA modulus (part bytes 0 bodySize) → b ≡ checkB modulus (part bytes 0 bodySize)
+    → x ≡ numberAt bytes 508 2 → y ≡ numberAt bytes 510 2
+    → a ≡ checkA modulus (part bytes 0 (headerSize + count) ++ replicate (bodySize - (headerSize + count)) 0)
+    → b ≡ checkB modulus (part bytes 0 (headerSize + count) ++ replicate (bodySize - (headerSize + count)) 0)
     → (told && reserved bytes && padding && (eqb x a && eqb y b)) ≡ same bytes (layout block (newBytesAt bytes count))
 laid-by bytes count block at of told padding x y a b long small own most e t f g p q q′ s s′ =
-    rw (t, f, g, p, q, q′, s, s′, e) (sym (laid bytes count long small (rw e at own) most))
+    rw (t, f, g, q, q′, s, s′, e)
+    (by-padding padding p ∙ sym (laid bytes count long small (rw e at own) most))
+  where
+    by-padding : (u : Bool) → u ≡ allZero (part bytes (headerSize + count) (bodySize - (headerSize + count)))
+        → (sameFields (fieldsAt bytes) (fieldsOf (blockAt bytes .kind)) && reserved bytes && u
+        && (eqb (numberAt bytes 508 2) (checkA modulus (part bytes 0 (headerSize + count) ++ replicate (bodySize - (headerSize + count)) 0))
+        && eqb (numberAt bytes 510 2) (checkB modulus (part bytes 0 (headerSize + count) ++ replicate (bodySize - (headerSize + count)) 0))))
+        ≡ (sameFields (fieldsAt bytes) (fieldsOf (blockAt bytes .kind)) && reserved bytes
+        && allZero (part bytes (headerSize + count) (bodySize - (headerSize + count)))
+        && (eqb (numberAt bytes 508 2) (checkA modulus (part bytes 0 bodySize)) && eqb (numberAt bytes 510 2) (checkB modulus (part bytes 0 bodySize))))
+    by-padding true z = rw (← z, body-blank bytes count long most (sym z)) refl
+    by-padding false z = rw (← z) (no-more (sameFields (fieldsAt bytes) (fieldsOf (blockAt bytes .kind)) && reserved bytes) _ _)

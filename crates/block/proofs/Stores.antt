@@ -5,7 +5,7 @@ use mathlib.Core.List.{List, [], _∷_, _++_, append-nil, append-assoc}
 use Prim.Native.Nat.{ℕ, zero, suc, _+_, _*_, _-_, _/_, _%_, _^_, _≤_, _<_}
 use native.Mathlib.Omega.{arith}
 use native.Mathlib.Nat.{pow-succ', pow-le-pow-right}
-use lib.ListN.{length, set, getD, drop, replicate, length-append, length-replicate, replicate-append-replicate, drop-of-length-le}
+use lib.ListN.{length, set, getD, take, drop, replicate, length-append, length-replicate, replicate-append-replicate, drop-of-length-le}
 use lib.Seq.{sets, sets-eq, take-at, drop-at, drop-cons}
 use Rattle.area.specs.Part.{part, splice}
 use Rattle.block.specs.Sizes.{blockSize, newBytesMost, headerSize, bodySize}
@@ -136,6 +136,19 @@ pub body-stored : (block : Block) (new : List ℕ) → length new ≤ newBytesMo
 unfolding body
 body-stored block new h =
     filled blockSize headerSize (header block) new (newBytesMost - length new) 4 (length-header block) (omega arith) (omega arith)
+
+-- the bytes up to the end of the new ones, and zeros: all that the check sums
+pub body-front : (block : Block) (new : List ℕ) → length new ≤ newBytesMost
+    → take (headerSize + length new) (body block new ++ replicate 4 0) ++ replicate (bodySize - (headerSize + length new)) 0 ≡ body block new
+unfolding body
+body-front block new h =
+    let front = header block ++ new in
+    let zeros : List ℕ = replicate (newBytesMost - length new) 0 in
+    let n : length front ≡ headerSize + length new = simp (length-append, length-header) in
+    let k : bodySize - (headerSize + length new) ≡ newBytesMost - length new = omega arith in
+    ap (λ (l : List ℕ). take (headerSize + length new) l ++ replicate (bodySize - (headerSize + length new)) 0) (append-assoc front zeros (replicate 4 0))
+    ∙ ap (λ (l : List ℕ). l ++ replicate (bodySize - (headerSize + length new)) 0) (take-at front (zeros ++ replicate 4 0) (headerSize + length new) n)
+    ∙ ap (λ (i : ℕ). front ++ replicate i 0) k
 
 -- and the check stored over the four zeros
 pub layout-stored : (block : Block) (new : List ℕ) (a b : ℕ) → length new ≤ newBytesMost

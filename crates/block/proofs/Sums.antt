@@ -1,13 +1,18 @@
 -- One byte more of the two sums, for the loop that takes both in one pass.
 -- Assumes nothing.
-use mathlib.Core.Path.{_≡_, sym, ap, _∙_}
-use Prim.Native.Nat.{ℕ, suc, _+_, _*_, _-_, _%_, _≤_, _<_}
-use mathlib.Core.List.{List}
+use mathlib.Core.Path.{_≡_, refl, sym, ap, _∙_}
+use Prim.Native.Nat.{ℕ, zero, suc, _+_, _*_, _-_, _%_, _≤_, _<_}
+use mathlib.Core.Bool.{Bool, _&&_}
+use mathlib.Core.List.{List, [], _∷_, _++_}
 use native.Mathlib.Omega.{arith}
 use native.Mathlib.Numerals.{add-one}
-use lib.ListN.{length, getD, drop, length-drop, drop-of-length-le}
+use lib.ListN.{length, getD, drop, replicate, length-drop, length-append, length-replicate, drop-of-length-le}
+use lib.Dec.{eqb}
+use borrow.Author.Tests.{ne-eqb}
+use native.Mathlib.Nat.{zero-add}
 use lib.Seq.{drop-cons}
 use Rattle.block.specs.Check.{plain, weighted, checkA, checkB}
+use Rattle.block.specs.Slot.{allZero}
 
 -- the byte at i and the sum of those after it
 pub plain-step : (bytes : List ℕ) (i : ℕ) → i < length bytes → plain (drop i bytes) ≡ getD bytes i 0 + plain (drop (i + 1) bytes)
@@ -30,18 +35,55 @@ turn n i a byte b rest rest′ whole h p q =
     let e : n - i ≡ suc (n - (i + 1)) = omega arith in
     omega (arith, rw e at p, rw e at q)
 
--- past the last byte a is the plain sum
-pub plain-end : (modulus : ℕ) (bytes : List ℕ) (i a : ℕ) → length bytes ≤ i → plain bytes ≡ a + plain (drop i bytes) → a % modulus ≡ checkA modulus bytes
-unfolding plain checkA
-plain-end modulus bytes i a h p =
-    let e : plain bytes ≡ a = omega (arith, p, ap plain (drop-of-length-le bytes h)) in
-    ap (λ (n : ℕ). n % modulus) (sym e)
+-- ---- zeros at the end
 
--- and b the weighted one
-pub weighted-end : (modulus : ℕ) (bytes : List ℕ) (i a b : ℕ) → length bytes ≤ i
-    → weighted bytes ≡ b + (length bytes - i) * a + weighted (drop i bytes) → b % modulus ≡ checkB modulus bytes
-unfolding weighted checkB
-weighted-end modulus bytes i a b h p =
+pub plain-zeros : (bytes : List ℕ) (zeros : ℕ) → plain (bytes ++ replicate zeros 0) ≡ plain bytes
+unfolding plain
+plain-zeros [] zero = refl
+plain-zeros [] (suc zeros) = omega (arith, plain-zeros [] zeros)
+plain-zeros (byte ∷ bytes) zeros = ap (λ (n : ℕ). byte + n) (plain-zeros bytes zeros)
+
+-- each zero counts the bytes before it once more
+pub weighted-zeros : (bytes : List ℕ) (zeros : ℕ) → weighted (bytes ++ replicate zeros 0) ≡ weighted bytes + plain bytes * zeros
+unfolding plain weighted
+weighted-zeros [] zero = refl
+weighted-zeros [] (suc zeros) = omega (arith, weighted-zeros [] zeros)
+weighted-zeros (byte ∷ bytes) zeros =
+    let e : length (bytes ++ replicate zeros 0) ≡ length bytes + zeros = simp (length-append, length-replicate) in
+    rw e (omega (arith, weighted-zeros bytes zeros))
+
+-- past the last byte a is the plain sum
+pub plain-end : (modulus : ℕ) (bytes : List ℕ) (zeros i a : ℕ) → length bytes ≤ i → plain bytes ≡ a + plain (drop i bytes)
+    → a % modulus ≡ checkA modulus (bytes ++ replicate zeros 0)
+unfolding plain checkA
+plain-end modulus bytes zeros i a h p =
+    let e : plain bytes ≡ a = omega (arith, p, ap plain (drop-of-length-le bytes h)) in
+    ap (λ (n : ℕ). n % modulus) (sym (plain-zeros bytes zeros ∙ e))
+
+-- and b the weighted one, with a once more for each zero
+pub weighted-end : (modulus : ℕ) (bytes : List ℕ) (zeros i a b : ℕ) → length bytes ≤ i → plain bytes ≡ a + plain (drop i bytes)
+    → weighted bytes ≡ b + (length bytes - i) * a + weighted (drop i bytes) → (b + a * zeros) % modulus ≡ checkB modulus (bytes ++ replicate zeros 0)
+unfolding plain weighted checkB
+weighted-end modulus bytes zeros i a b h q p =
     let f : length bytes - i ≡ 0 = omega arith in
+    let d : plain bytes ≡ a = omega (arith, q, ap plain (drop-of-length-le bytes h)) in
     let e : weighted bytes ≡ b = omega (arith, rw f at p, ap weighted (drop-of-length-le bytes h)) in
-    ap (λ (n : ℕ). n % modulus) (sym e)
+    ap (λ (n : ℕ). n % modulus) (sym (weighted-zeros bytes zeros ∙ rw (d, e) refl))
+
+-- ---- a sum that is zero
+
+pub zero-sum : (bytes : List ℕ) → eqb (plain bytes) 0 ≡ allZero bytes
+unfolding plain allZero
+zero-sum [] = refl
+zero-sum (byte ∷ bytes) = by-zero (zero-sum bytes) byte
+  where
+    by-zero : eqb (plain bytes) 0 ≡ allZero bytes → (n : ℕ) → eqb (n + plain bytes) 0 ≡ (eqb n 0 && allZero bytes)
+    by-zero ih zero = rw (zero-add (plain bytes)) ih
+    by-zero ih (suc n) = ne-eqb (suc n + plain bytes) 0 (λ e. omega arith) ∙ sym (ap (λ (t : Bool). t && allZero bytes) (ne-eqb (suc n) 0 (λ e. omega arith)))
+
+-- past the last byte the total is the plain sum
+pub total-end : (bytes : List ℕ) (i total : ℕ) → length bytes ≤ i → plain bytes ≡ total + plain (drop i bytes) → eqb total 0 ≡ allZero bytes
+unfolding plain
+total-end bytes i total h p =
+    let e : plain bytes ≡ total = omega (arith, p, ap plain (drop-of-length-le bytes h)) in
+    ap (λ (n : ℕ). eqb n 0) (sym e) ∙ zero-sum bytes

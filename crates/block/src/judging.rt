@@ -10,7 +10,7 @@ ghost use mathlib.Core.Bool.{_&&_};
 ghost use Prim.Native.Nat.{_+_, _-_, _≤_, _<_};
 ghost use lib.Dec.{leb, eqb};
 ghost use lib.ListN.{length};
-ghost use Rattle.block.specs.Sizes.{blockSize, newBytesMost};
+ghost use Rattle.block.specs.Sizes.{blockSize, newBytesMost, bodySize};
 ghost use Rattle.block.specs.Kind.{kindOf, lengthOf};
 ghost use Rattle.block.specs.Layout.{layout};
 ghost use Rattle.block.specs.Legal.{legal, legalKind, legalNumbers};
@@ -34,6 +34,20 @@ pub fn zeros(bytes: &[u8]) -> bool
         i += 1;
     }
     true
+}
+
+// The same for bytes that are likely zero: all are read, and no branch is taken on a byte.
+fn blank(bytes: &[u8]) -> bool
+    requires { ⌜ length (now bytes) ≤ bodySize ⌝ }
+    ensures { λ r. ⌜ r ≡ allZero (now (bytes .entry)) ⌝ }
+{
+    let mut total: u64 = 0;
+    let mut i = 0;
+    while i < bytes.len() {
+        total += bytes[i] as u64;
+        i += 1;
+    }
+    total == 0
 }
 
 // Bytes 16 and 18 to 25 of a slot.
@@ -149,8 +163,9 @@ fn laid_out(slot: &[u8], block: Block, count: usize) -> bool
     let kind = block.kind;
     let told = same_fields(fields_at(slot), writing::fields_of(kind));
     let reserved = (slot[17] == 0) & (slot[26] == 0) & (slot[27] == 0);
-    let padding = zeros(&slot[writing::HEADER + count..writing::BODY]);
-    let sums = check::check_of(&slot[..writing::BODY]);
+    let end = writing::HEADER + count;
+    let padding = blank(&slot[end..writing::BODY]);
+    let sums = check::check_of(&slot[..end], writing::BODY - end);
     let checked = (number::get(slot, 508, 2) == sums.a) & (number::get(slot, 510, 2) == sums.b);
     told & reserved & padding & checked
 }

@@ -84,7 +84,7 @@ pub fn built(block: Block, new: &[u8]) -> [u8; 512]
     put_header(&mut b, block);
     let end = HEADER + new.len();
     area::copy(&mut b[HEADER..end], new);
-    let sums = check::check_of(&b[..BODY]);
+    let sums = check::check_of(&b[..end], BODY - end);
     number::put(&mut b, 508, 2, sums.a);
     number::put(&mut b, 510, 2, sums.b);
     b

@@ -1,18 +1,19 @@
 -- `check::check_of` meets its contract. The loop's invariant: what a and b lack of the two sums is in the bytes left, and neither is
 -- too great for 64 bits.
 -- Assumes nothing.
-use Prim.Native.Nat.{_+_, _*_, _-_, _≤_, _<_}
+use Prim.Native.Nat.{ℕ, _+_, _*_, _-_, _≤_, _<_}
 use mathlib.Core.Path.{_≡_}
 use lib.ListN.{length, getD, drop}
 use Rattle.block.specs.Check.{plain, weighted, modulus}
 use Rattle.block.proofs.Sums.{plain-step, weighted-step, turn, plain-end, weighted-end}
 use borrow.Author.Needs.{needs}
+use native.Mathlib.Nat.{mul-le-mul}
 use native.Mathlib.Omega.{arith}
 use Rattle.block.proofs.check.check_of.Statement.{statement}
 use Rattle.block.proofs.check.check_of.Tie as tie
 
 abbrev Inv-loop : tie.InvT-loop
-Inv-loop bytes a₀ b₀ i₀ a b i =
+Inv-loop bytes zeros a₀ b₀ i₀ a b i =
     (i ≤ length bytes)
     × (a ≤ 255 * i)
     × (b ≤ 129540 * i)
@@ -20,7 +21,7 @@ Inv-loop bytes a₀ b₀ i₀ a b i =
     × (weighted bytes ≡ b + (length bytes - i) * a + weighted (drop i bytes))
 
 abbrev μ-loop : tie.MeasureT-loop
-μ-loop bytes a₀ b₀ i₀ a b i = length bytes - i
+μ-loop bytes zeros a₀ b₀ i₀ a b i = length bytes - i
 
 loop-holds : tie.Need-loop-holds Inv-loop μ-loop
 loop-holds c = search needs
@@ -59,12 +60,25 @@ loop-again c =
           (l .inv .4) (weighted-step bytes i h),
     )
 
+-- a times the zeros is small
+after-small : (a zeros i : ℕ) → a ≤ 255 * i → i ≤ 508 → zeros ≤ 508 → a * zeros ≤ 129540 * 508
+after-small a zeros i p q r = mul-le-mul {n₁ = a} {m₁ = zeros} {n₂ = 129540} {m₂ = 508} (omega arith) r
+
+mul-after : tie.Need-mul-after Inv-loop μ-loop
+mul-after c = omega (arith, after-small (c .before .loop .a) (c .before .before .args .zeros) (c .before .loop .i) (omega arith) (omega arith) (omega arith))
+
+add-t13 : tie.Need-add-t13 Inv-loop μ-loop
+add-t13 c = omega (arith, after-small (c .before .loop .a) (c .before .before .args .zeros) (c .before .loop .i) (omega arith) (omega arith) (omega arith))
+
 returns : tie.Need-returns Inv-loop μ-loop
 returns c =
     let l = c .before .loop in
-    let bytes = c .before .before .args .bytes .now in
-    let h : length bytes ≤ l .i = c .loop-test .left in
-    (plain-end modulus bytes (l .i) (l .a) h (l .inv .3), weighted-end modulus bytes (l .i) (l .a) (l .b) h (l .inv .4))
+    let start = c .before .before in
+    let bytes = start .args .bytes .now in
+    let h : length bytes ≤ l .i = c .loop-test .left in (
+      plain-end modulus bytes (start .args .zeros) (l .i) (l .a) h (l .inv .3),
+      weighted-end modulus bytes (start .args .zeros) (l .i) (l .a) (l .b) h (l .inv .3) (l .inv .4),
+    )
 
 pub check-of-spec : {M : Type 1} → statement M
 check-of-spec =
@@ -80,4 +94,6 @@ check-of-spec =
     add-i
     loop-less
     loop-again
+    mul-after
+    add-t13
     returns)

@@ -1,9 +1,11 @@
 -- `judging::laid_out` meets its contract: its four tests are those of the layout.
 -- Assumes nothing.
 use mathlib.Core.Path.{sym}
+use Prim.Native.Nat.{_+_}
+use lib.ListN.{length-take, length-drop}
 use lib.Seq.{length-take-le}
 use Rattle.area.specs.Part.{part}
-use Rattle.block.specs.Sizes.{bodySize}
+use Rattle.block.specs.Sizes.{headerSize, bodySize}
 use Rattle.block.proofs.Rules.{laid-by}
 use borrow.Author.Needs.{needs}
 use native.Mathlib.Omega.{arith}
@@ -28,26 +30,33 @@ shared-slice-read-reserved-2 c = search needs
 shared-slice-read-reserved-3 : tie.Need-shared-slice-read-reserved-3
 shared-slice-read-reserved-3 c = search needs
 
-add-zeros : tie.Need-add-zeros
-add-zeros c = search needs
+add-end : tie.Need-add-end
+add-end c = search needs
 
-sub-zeros : tie.Need-sub-zeros
-sub-zeros c = search needs
+sub-blank : tie.Need-sub-blank
+sub-blank c = search needs
 
-part-zeros-start : tie.Need-part-zeros-start
-part-zeros-start c = search needs
+part-blank-start : tie.Need-part-blank-start
+part-blank-start c = search needs
 
-part-zeros-end : tie.Need-part-zeros-end
-part-zeros-end c = search needs
+part-blank-end : tie.Need-part-blank-end
+part-blank-end c = search needs
 
-zeros-requires : tie.Need-zeros-requires
-zeros-requires c κs = search needs
+blank-requires : tie.Need-blank-requires
+blank-requires c κs = simp (length-take, length-drop) (omega arith)
 
 slice-aggregate-check-of : tie.Need-slice-aggregate-check-of
-slice-aggregate-check-of c = sym (length-take-le bodySize (c .before .before .before .before .before .before .before .before .before .before .args .slot .now) (omega arith))
+slice-aggregate-check-of c =
+    let start = c .before .before .before .before .before .before .before .before .before .before in
+    sym (length-take-le (headerSize + start .args .count) (start .args .slot .now) (omega arith))
+
+sub-check-of : tie.Need-sub-check-of
+sub-check-of c = search needs
 
 check-of-requires : tie.Need-check-of-requires
-check-of-requires c κs = omega (arith, length-take-le bodySize (c .before .before .before .before .before .before .before .before .before .before .args .slot .now) (omega arith))
+check-of-requires c κs =
+    let start = c .before .before .before .before .before .before .before .before .before .before in
+    omega (arith, length-take-le (headerSize + start .args .count) (start .args .slot .now) (omega arith))
 
 get-requires : tie.Need-get-requires
 get-requires c κs = search needs
@@ -63,7 +72,7 @@ returns c =
     let at = c .before .before .before .before .before .before .before .before .before .before .before .before .before .fields-at in
     let of = c .before .before .before .before .before .before .before .before .before .before .before .before .fields-of in
     let told = c .before .before .before .before .before .before .before .before .before .before .before .same-fields in
-    let padding = c .before .before .before .before .before .before .zeros in
+    let padding = c .before .before .before .before .before .before .blank in
     let sums = c .before .before .before .before .check-of in
     let x = c .before .before .before .get in
     let y = c .before .get2 in
@@ -82,12 +91,13 @@ laid-out-spec =
     shared-slice-read-reserved
     shared-slice-read-reserved-2
     shared-slice-read-reserved-3
-    add-zeros
-    sub-zeros
-    part-zeros-start
-    part-zeros-end
-    zeros-requires
+    add-end
+    sub-blank
+    part-blank-start
+    part-blank-end
+    blank-requires
     slice-aggregate-check-of
+    sub-check-of
     check-of-requires
     get-requires
     get-requires-2

@@ -13,7 +13,7 @@ use Rattle.block.specs.Number.{toBytes}
 use Rattle.block.specs.Check.{checkA, checkB, modulus}
 use Rattle.block.specs.Layout.{body}
 use Rattle.block.proofs.Lengths.{length-body}
-use Rattle.block.proofs.Stores.{body-stored, layout-stored}
+use Rattle.block.proofs.Stores.{body-stored, body-front, layout-stored}
 use borrow.Author.Needs.{needs}
 use native.Mathlib.Omega.{arith}
 use Rattle.block.proofs.writing.built.Statement.{statement}
@@ -66,6 +66,9 @@ slice-aggregate-check-of c =
     let g = simp (length-take, length-drop) at (c .before .b3 .given) in
     simp (length-append, length-take, length-drop) (omega (arith, head-long (c .before .before .before .before)))
 
+sub-check-of : tie.Need-sub-check-of
+sub-check-of c = search needs
+
 check-of-requires : tie.Need-check-of-requires
 check-of-requires c κs = simp length-take (omega arith)
 
@@ -82,9 +85,11 @@ returns c =
     let sums = c .before .before .before .before .check-of in
     let a = sums .result .a in
     let b = sums .result .b in
-    let bytes = body (start .args .block) (start .args .new .now) in
-    let t : take bodySize (stored at-copy) ≡ bytes =
-    ap (take bodySize) (stored-is at-copy) ∙ take-at bytes (replicate 4 0) bodySize (length-body (start .args .block) (start .args .new .now) (start .pre)) in
+    let new = start .args .new .now in
+    let bytes = body (start .args .block) new in
+    let t : take (headerSize + length new) (stored at-copy) ++ replicate (bodySize - (headerSize + length new)) 0 ≡ bytes =
+    ap (λ (l : List ℕ). take (headerSize + length new) l ++ replicate (bodySize - (headerSize + length new)) 0) (stored-is at-copy)
+    ∙ body-front (start .args .block) new (start .pre) in
     c .put2 .ensures
     ∙ ap (λ (l : List ℕ). sets l 510 (toBytes 2 b)) (c .before .before .put .ensures ∙ ap (λ (l : List ℕ). sets l 508 (toBytes 2 a)) (stored-is at-copy))
     ∙ layout-stored (start .args .block) (start .args .new .now) a b (start .pre)
@@ -102,6 +107,7 @@ built-spec =
     copy-requires
     array-share-prefix-b
     slice-aggregate-check-of
+    sub-check-of
     check-of-requires
     put-requires
     put-requires-2
