@@ -14,7 +14,7 @@ ghost use Rattle.block.specs.Sizes.{blockSize, newBytesMost, pageSize};
 ghost use Rattle.block.specs.Layout.{layout};
 ghost use Rattle.block.specs.Kind.{updateBlock, commitBlock, cleanBlock};
 ghost use Rattle.block.specs.Legal.{legalPlace};
-ghost use Rattle.block.specs.Slot.{judged, newBytesAt};
+ghost use Rattle.block.specs.Slot.{judged, blockAt, newBytesAt};
 
 // What a block does, with the fields that only this kind has.
 pub enum Kind {
@@ -148,6 +148,14 @@ pub fn judge(slot: &[u8], slots: u64, pages: usize, place: u64) -> Judged
         return Judged::Valid(block);
     }
     Judged::Damaged
+}
+
+// The block that a slot's header tells, without judging the slot.
+pub fn header(slot: &[u8]) -> Block
+    requires { ⌜ length (now slot) ≡ blockSize ⌝ }
+    ensures { λ r. ⌜ r ≡ blockAt (now (slot .entry)) ⌝ }
+{
+    judging::block_at(slot)
 }
 
 // The new bytes of a slot whose block carries so many: a part of the slot.
