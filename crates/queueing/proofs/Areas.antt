@@ -9,8 +9,7 @@ use lib.Dec.{eqb, leb}
 use lib.ListN.{length}
 use borrow.Author.Tests.{eqb-true, leb-true, le-leb, lt-leb}
 use Rattle.block.proofs.Tests.{by-cases}
-use Rattle.promises.specs.declared.Staged.{Staged}
-use Rattle.promises.specs.Sound.{member, areasOf}
+use Rattle.promises.specs.Sound.{member}
 
 -- how many areas of a list are from a number on
 abbrev pub above : ℕ → List ℕ → ℕ
@@ -49,7 +48,3 @@ above-held area (x ∷ xs) e = go (eqb area x) refl e (above-held area xs)
         let k = above-less area xs in
         rw (le-leb area x lo, lt-leb (area + 1) x hi) (omega arith)
     go false q e ih = let h = ih e in let k = less area x in omega arith
-
-pub areas-length : (updates : List Staged) → length (areasOf updates) ≡ length updates
-areas-length [] = refl
-areas-length (x ∷ xs) = let h = areas-length xs in omega arith

@@ -52,10 +52,14 @@ pub fn free_area(state: State, count: usize) -> u8
     requires { ⌜ (count < state .frames) × (state .frames ≤ 32) ⌝ }
     ensures { λ r. ⌜ (r < state .frames) × (member r (areasOf (take count (state .staged))) ≡ false) ⌝ }
 {
+    let staged = state.staged;
+    let areas = soundness::queue::areas_of(staged, count);
+    let list = areas.list;
     let frames = state.frames as u8;
     let mut area: u8 = 0;
     while area < frames {
-        if !soundness::queue::area_from(state, 0, count, area) {
+        let number = soundness::wide::short(area);
+        if !soundness::numbers::member_from(&list[..count], 0, number) {
             return area;
         }
         area += 1;

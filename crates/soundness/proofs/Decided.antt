@@ -11,9 +11,9 @@ use Rattle.block.proofs.Tests.{never-both, not-passed, bool-ext}
 use Rattle.promises.specs.declared.State.{State}
 use Rattle.promises.specs.Contents.{total, groupsOf}
 use Rattle.promises.specs.Sums.{framesTaken, reservedUpdates}
-use Rattle.promises.specs.Sound.{sizesLegal, ofOldest, stagedOf, ticketSound, slotSumSound, frameSumSound, sequenceSumSound, cleaningSound, sound}
+use Rattle.promises.specs.Sound.{distinct, dirtyNumbers, areasOf, sizesLegal, ofOldest, stagedOf, ticketSound, slotSumSound, frameSumSound, sequenceSumSound, cleaningSound, sound}
 use Rattle.promises.proofs.Soundness.{and-both, and2, Sound, sound-of, of-sound}
-use Rattle.soundness.specs.Tests.{inRange, fitting, countsLegal, entriesLegal, waitingLegal}
+use Rattle.soundness.specs.Tests.{inRange, fitting, countsLegal, entriesLegal, pagesLegal, updatesLegal, waitingLegal}
 use Rattle.soundness.proofs.Counts.{InRange, range-of, of-range, reserved-is}
 use Rattle.soundness.proofs.Entries.{Entries, entries-of, of-entries, Waiting, waiting-of, of-waiting}
 
@@ -67,26 +67,28 @@ module _ (s : State) (groups-long : length (s .groups) ≡ 32) (staged-long : le
   unsound e = sym (not-passed (sound s) (λ t. never-both (countsLegal s) (counts-of s groups-long (sound-of s t)) e))
 
   abbrev arrays : Bool
-  arrays = entriesLegal (s .pages) (s .frames) (s .next) 0 (s .dirty) && waitingLegal (s .pages) (s .frames) (stagedOf s) && cleaningSound s
+  arrays = pagesLegal s && waitingLegal (s .pages) (s .frames) (stagedOf s)
 
   to-sound : countsLegal s ≡ true → arrays ≡ true → Sound s
   to-sound h a =
       let k = counted s h in
       let r = k .range in
-      let a2 = and-both (entriesLegal (s .pages) (s .frames) (s .next) 0 (s .dirty) && waitingLegal (s .pages) (s .frames) (stagedOf s)) (cleaningSound s) a in
-      let a1 = and-both (entriesLegal (s .pages) (s .frames) (s .next) 0 (s .dirty)) (waitingLegal (s .pages) (s .frames) (stagedOf s)) (a2 .0) in
-      let e = entries-of (s .pages) (s .frames) (s .next) 0 (s .dirty) (a1 .0) in
-      let w = waiting-of (s .pages) (s .frames) (stagedOf s) (a1 .1) in
+      let both = and-both (pagesLegal s) (waitingLegal (s .pages) (s .frames) (stagedOf s)) a in
+      let p2 = and-both (entriesLegal (s .pages) (s .frames) (s .next) 0 (s .dirty) && distinct (dirtyNumbers (s .dirty))) (cleaningSound s) (both .0) in
+      let p1 = and-both (entriesLegal (s .pages) (s .frames) (s .next) 0 (s .dirty)) (distinct (dirtyNumbers (s .dirty))) (p2 .0) in
+      let w1 = and-both (updatesLegal (s .pages) (s .frames) (stagedOf s)) (distinct (areasOf (stagedOf s))) (both .1) in
+      let e = entries-of (s .pages) (s .frames) (s .next) 0 (s .dirty) (p1 .0) in
+      let w = waiting-of (s .pages) (s .frames) (stagedOf s) (w1 .0) in
       record {
         pages = r .pages;
         slots = r .slots;
         frames = r .frames;
-        distinctPages = e .distinctPages;
+        distinctPages = p1 .1;
         pagesBelow = e .pagesBelow;
         framesBelow = rw sub-zero at (e .framesBelow);
         firstsBelow = e .firstsBelow;
         ticket = ltb-true _ _ (k .ticket);
-        distinctAreas = w .distinctAreas;
+        distinctAreas = w1 .1;
         areasBelow = w .areasBelow;
         places = w .places;
         groups = k .groups;
@@ -95,7 +97,7 @@ module _ (s : State) (groups-long : length (s .groups) ≡ 32) (staged-long : le
         reserved = r .reserved;
         described = r .described;
         stored = k .stored;
-        cleaning = a2 .1;
+        cleaning = p2 .1;
         slotSum = leb-true _ _ (k .slotSum);
         frameSum = leb-true _ _ (k .frameSum);
         sequenceSum = leb-true _ _ (k .sequenceSum);
@@ -103,15 +105,15 @@ module _ (s : State) (groups-long : length (s .groups) ≡ 32) (staged-long : le
 
   from-sound : Sound s → arrays ≡ true
   from-sound f =
-      let e : Entries (s .pages) (s .frames) (s .next) 0 (s .dirty) = record { distinctPages = f .distinctPages; pagesBelow = f .pagesBelow; framesBelow = rw sub-zero (f .framesBelow); firstsBelow = f .firstsBelow } in
-      let w : Waiting (s .pages) (s .frames) (stagedOf s) = record { distinctAreas = f .distinctAreas; areasBelow = f .areasBelow; places = f .places } in
-      and2 (and2 (of-entries (s .pages) (s .frames) (s .next) 0 (s .dirty) e) (of-waiting (s .pages) (s .frames) (stagedOf s) w)) (f .cleaning)
+      let e : Entries (s .pages) (s .frames) (s .next) 0 (s .dirty) = record { pagesBelow = f .pagesBelow; framesBelow = rw sub-zero (f .framesBelow); firstsBelow = f .firstsBelow } in
+      let w : Waiting (s .pages) (s .frames) (stagedOf s) = record { areasBelow = f .areasBelow; places = f .places } in
+      and2 (and2 (and2 (of-entries (s .pages) (s .frames) (s .next) 0 (s .dirty) e) (f .distinctPages)) (f .cleaning))
+      (and2 (of-waiting (s .pages) (s .frames) (stagedOf s) w) (f .distinctAreas))
 
   arrays-decide : countsLegal s ≡ true → arrays ≡ sound s
   arrays-decide h = bool-ext arrays (sound s) (λ a. of-sound s (to-sound h a)) (λ t. from-sound (sound-of s t))
 
   -- counts that pass leave the arrays to decide; the code counts V and the updates described
-  pub decided : countsLegal s ≡ true → (queued : ℕ) (pages staged cleaning : Bool) → queued ≡ total (groupsOf s)
-      → pages ≡ entriesLegal (s .pages) (s .frames) (s .next) 0 (s .dirty) → staged ≡ waitingLegal (s .pages) (s .frames) (take (queued + s .described) (s .staged))
-      → cleaning ≡ cleaningSound s → (pages && staged && cleaning) ≡ sound s
-  decided h queued pages staged cleaning q p w c = rw (p, w, c, q) (arrays-decide h)
+  pub decided : countsLegal s ≡ true → (queued : ℕ) (pages staged : Bool) → queued ≡ total (groupsOf s) → pages ≡ pagesLegal s
+      → staged ≡ waitingLegal (s .pages) (s .frames) (take (queued + s .described) (s .staged)) → (pages && staged) ≡ sound s
+  decided h queued pages staged q p w = rw (p, w, q) (arrays-decide h)

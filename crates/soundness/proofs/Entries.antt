@@ -1,7 +1,7 @@
 -- Entry by entry, the tests of the dirty pages and of the waiting updates are the clauses of soundness.
 -- Assumes nothing.
 use mathlib.Core.Path.{_≡_, refl, sym, _∙_}
-use mathlib.Core.Bool.{true, false, not, _&&_}
+use mathlib.Core.Bool.{true, false, _&&_}
 use mathlib.Core.List.{List, [], _∷_}
 use Prim.Native.Nat.{ℕ, suc, _-_, _<_}
 use native.Mathlib.Omega.{arith}
@@ -15,14 +15,13 @@ use Rattle.block.proofs.Tests.{by-cases}
 use Rattle.promises.specs.declared.Dirty.{Dirty}
 use Rattle.promises.specs.declared.Staged.{Staged}
 use Rattle.promises.specs.Sums.{firstGroups}
-use Rattle.promises.specs.Sound.{member, distinct, allBelow, dirtyNumbers, areasOf, allLegal}
+use Rattle.promises.specs.Sound.{allBelow, dirtyNumbers, areasOf, allLegal}
 use Rattle.promises.proofs.Soundness.{and-both, and2}
-use Rattle.soundness.specs.Tests.{entryLegal, entriesLegal, stagedLegal, waitingLegal}
+use Rattle.soundness.specs.Tests.{entryLegal, entriesLegal, stagedLegal, updatesLegal}
 
 module _ (pages frames next : ℕ) where
   -- the clauses over the entries of the frames from a number on
   pub record Entries (frame : ℕ) (entries : List Dirty) : Type 0 where
-    pub distinctPages : distinct (dirtyNumbers entries) ≡ true
     pub pagesBelow : allBelow pages (dirtyNumbers entries) ≡ true
     pub framesBelow : length (firstGroups (drop (frames - frame) entries)) ≡ 0
     pub firstsBelow : allBelow next (firstGroups entries) ≡ true
@@ -50,19 +49,17 @@ module _ (pages frames next : ℕ) where
 
   pub entries-of : (frame : ℕ) (entries : List Dirty) → entriesLegal pages frames next frame entries ≡ true → Entries frame entries
   unfolding entriesLegal dirtyNumbers firstGroups
-  entries-of frame [] h = record { distinctPages = refl; pagesBelow = refl; framesBelow = rw (drop-nil (frames - frame)); firstsBelow = refl }
+  entries-of frame [] h = record { pagesBelow = refl; framesBelow = rw (drop-nil (frames - frame)); firstsBelow = refl }
   entries-of frame (entry ∷ later) h =
-      let both = and-both (entryLegal pages frames next frame entry later) (entriesLegal pages frames next (suc frame) later) h in
+      let both = and-both (entryLegal pages frames next frame entry) (entriesLegal pages frames next (suc frame) later) h in
       let ih = entries-of (suc frame) later (both .1) in
       by-cases (eqb (entry .first) 0)
-      (λ t. record { distinctPages = rw t (ih .distinctPages); pagesBelow = rw t (ih .pagesBelow); framesBelow = free-below frame entry later t ∙ ih .framesBelow; firstsBelow = rw t (ih .firstsBelow) })
+      (λ t. record { pagesBelow = rw t (ih .pagesBelow); framesBelow = free-below frame entry later t ∙ ih .framesBelow; firstsBelow = rw t (ih .firstsBelow) })
       (λ t.
-      let e : (ltb frame frames && ltb (entry .page) pages && ltb (entry .first) next && not (member (entry .page) (dirtyNumbers later))) ≡ true = rw t at (both .0) in
-      let e3 = and-both (ltb frame frames && ltb (entry .page) pages && ltb (entry .first) next) (not (member (entry .page) (dirtyNumbers later))) e in
-      let e2 = and-both (ltb frame frames && ltb (entry .page) pages) (ltb (entry .first) next) (e3 .0) in
+      let e : (ltb frame frames && ltb (entry .page) pages && ltb (entry .first) next) ≡ true = rw t at (both .0) in
+      let e2 = and-both (ltb frame frames && ltb (entry .page) pages) (ltb (entry .first) next) e in
       let e1 = and-both (ltb frame frames) (ltb (entry .page) pages) (e2 .0) in
       record {
-        distinctPages = rw t (and2 (e3 .1) (ih .distinctPages));
         pagesBelow = rw t (and2 (e1 .1) (ih .pagesBelow));
         framesBelow = held-below frame entry later (ltb-true _ _ (e1 .0)) ∙ ih .framesBelow;
         firstsBelow = rw t (and2 (e2 .1) (ih .firstsBelow));
@@ -74,46 +71,40 @@ module _ (pages frames next : ℕ) where
   of-entries frame (entry ∷ later) f =
       by-cases (eqb (entry .first) 0)
       (λ t.
-      let legal : entryLegal pages frames next frame entry later ≡ true = rw t in
+      let legal : entryLegal pages frames next frame entry ≡ true = rw t in
       and2 legal (of-entries (suc frame) later (record {
-        distinctPages = rw t at (f .distinctPages);
         pagesBelow = rw t at (f .pagesBelow);
         framesBelow = sym (free-below frame entry later t) ∙ f .framesBelow;
         firstsBelow = rw t at (f .firstsBelow);
       })))
       (λ t.
       let l : frame < frames = held-frame frame entry later t (f .framesBelow) in
-      let d : (not (member (entry .page) (dirtyNumbers later)) && distinct (dirtyNumbers later)) ≡ true = rw t at (f .distinctPages) in
       let p : (ltb (entry .page) pages && allBelow pages (dirtyNumbers later)) ≡ true = rw t at (f .pagesBelow) in
       let g : (ltb (entry .first) next && allBelow next (firstGroups later)) ≡ true = rw t at (f .firstsBelow) in
-      let d2 = and-both (not (member (entry .page) (dirtyNumbers later))) (distinct (dirtyNumbers later)) d in
       let p2 = and-both (ltb (entry .page) pages) (allBelow pages (dirtyNumbers later)) p in
       let g2 = and-both (ltb (entry .first) next) (allBelow next (firstGroups later)) g in
-      let legal : entryLegal pages frames next frame entry later ≡ true = rw t (and2 (and2 (and2 (lt-ltb _ _ l) (p2 .0)) (g2 .0)) (d2 .0)) in
-      and2 legal (of-entries (suc frame) later (record { distinctPages = d2 .1; pagesBelow = p2 .1; framesBelow = sym (held-below frame entry later l) ∙ f .framesBelow; firstsBelow = g2 .1 })))
+      let legal : entryLegal pages frames next frame entry ≡ true = rw t (and2 (and2 (lt-ltb _ _ l) (p2 .0)) (g2 .0)) in
+      and2 legal (of-entries (suc frame) later (record { pagesBelow = p2 .1; framesBelow = sym (held-below frame entry later l) ∙ f .framesBelow; firstsBelow = g2 .1 })))
 
 module _ (pages frames : ℕ) where
   -- the clauses over updates that wait
   pub record Waiting (updates : List Staged) : Type 0 where
-    pub distinctAreas : distinct (areasOf updates) ≡ true
     pub areasBelow : allBelow frames (areasOf updates) ≡ true
     pub places : allLegal pages updates ≡ true
 
-  pub waiting-of : (updates : List Staged) → waitingLegal pages frames updates ≡ true → Waiting updates
-  unfolding waitingLegal
-  waiting-of [] h = record { distinctAreas = refl; areasBelow = refl; places = refl }
+  pub waiting-of : (updates : List Staged) → updatesLegal pages frames updates ≡ true → Waiting updates
+  unfolding updatesLegal
+  waiting-of [] h = record { areasBelow = refl; places = refl }
   waiting-of (x ∷ xs) h =
-      let both = and-both (stagedLegal pages frames x xs) (waitingLegal pages frames xs) h in
+      let both = and-both (stagedLegal pages frames x) (updatesLegal pages frames xs) h in
       let ih = waiting-of xs (both .1) in
-      let e2 = and-both (ltb (x .area) frames && legalPlace pages (x .page) (x .offset) (x .length)) (not (member (x .area) (areasOf xs))) (both .0) in
-      let e1 = and-both (ltb (x .area) frames) (legalPlace pages (x .page) (x .offset) (x .length)) (e2 .0) in
-      record { distinctAreas = and2 (e2 .1) (ih .distinctAreas); areasBelow = and2 (e1 .0) (ih .areasBelow); places = and2 (e1 .1) (ih .places) }
+      let e1 = and-both (ltb (x .area) frames) (legalPlace pages (x .page) (x .offset) (x .length)) (both .0) in
+      record { areasBelow = and2 (e1 .0) (ih .areasBelow); places = and2 (e1 .1) (ih .places) }
 
-  pub of-waiting : (updates : List Staged) → Waiting updates → waitingLegal pages frames updates ≡ true
-  unfolding waitingLegal
+  pub of-waiting : (updates : List Staged) → Waiting updates → updatesLegal pages frames updates ≡ true
+  unfolding updatesLegal
   of-waiting [] f = refl
   of-waiting (x ∷ xs) f =
-      let d = and-both (not (member (x .area) (areasOf xs))) (distinct (areasOf xs)) (f .distinctAreas) in
       let b = and-both (ltb (x .area) frames) (allBelow frames (areasOf xs)) (f .areasBelow) in
       let l = and-both (legalPlace pages (x .page) (x .offset) (x .length)) (allLegal pages xs) (f .places) in
-      and2 (and2 (and2 (b .0) (l .0)) (d .0)) (of-waiting xs (record { distinctAreas = d .1; areasBelow = b .1; places = l .1 }))
+      and2 (and2 (b .0) (l .0)) (of-waiting xs (record { areasBelow = b .1; places = l .1 }))

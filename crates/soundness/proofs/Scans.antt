@@ -1,25 +1,25 @@
 -- What a scan of the state's arrays tells at each turn: what is left to see, and how a definition over it goes on.
 -- Assumes nothing.
 use mathlib.Core.Path.{_≡_, refl, sym, ap, _∙_}
-use mathlib.Core.Bool.{Bool, true, false, not, _&&_, _||_}
-use mathlib.Core.List.{List, [], _∷_, map}
+use mathlib.Core.Bool.{Bool, true, false, not, _&&_}
+use mathlib.Core.List.{List, [], _∷_, _++_, map, append-assoc, append-nil}
 use Prim.Native.Nat.{ℕ, zero, suc, _+_, _≤_, _<_, min}
 use native.Mathlib.Omega.{arith}
 use native.Mathlib.Numerals.{add-one}
 use lib.Dec.{eqb, leb, ltb}
-use lib.ListN.{length, take, drop, getD, length-map, drop-of-length-le}
-use lib.Seq.{drop-cons, getD-take, length-take-le}
+use lib.ListN.{length, take, drop, getD, set, length-map, drop-of-length-le}
+use lib.Seq.{drop-cons, getD-take, length-take-le, take-suc-set}
 use borrow.Author.Tests.{eqb-true, eqb-false, ltb-true, ltb-false, eq-eqb, ne-eqb, not-true}
 use Rattle.block.proofs.Tests.{by-cases}
 use Rattle.promises.proofs.Soundness.{and-both}
 use Rattle.promises.proofs.Changes.{smallest-le}
 use Rattle.promises.specs.declared.Dirty.{Dirty}
 use Rattle.promises.specs.declared.Staged.{Staged}
-use Rattle.promises.specs.Contents.{unless, total}
+use Rattle.promises.specs.Contents.{total}
 use Rattle.promises.specs.Sums.{firstGroups, smallest, blockCount}
-use Rattle.promises.specs.Sound.{member, dirtyNumbers, ofOldest}
+use Rattle.promises.specs.Sound.{dirtyNumbers, ofOldest}
 use Rattle.promises.proofs.Table.{free}
-use Rattle.soundness.specs.Tests.{entryLegal, entriesLegal, noStaged, stagedLegal, waitingLegal}
+use Rattle.soundness.specs.Tests.{entryLegal, entriesLegal, noStaged, stagedLegal, updatesLegal}
 
 -- the length of an array of structs in a struct, as owning the struct tells it: `search (needs, length-mapped)` finds the premise
 pub length-mapped : (X Y : Type 0) (f : X → Y) (l : List X) (n : ℕ) → length (map f l) ≡ n → length l ≡ n
@@ -43,32 +43,19 @@ module _ {A : Type 0} where
 
 -- ---- dirty pages
 
-numbers-turn : (page : ℕ) (entry : Dirty) (later : List Dirty)
-    → member page (dirtyNumbers (entry ∷ later)) ≡ ((not (eqb (entry .first) 0) && eqb page (entry .page)) || member page (dirtyNumbers later))
-unfolding dirtyNumbers
-numbers-turn page entry later = go (eqb (entry .first) 0)
-  where
-    go : (b : Bool) → member page (unless b (entry .page) (dirtyNumbers later)) ≡ ((not b && eqb page (entry .page)) || member page (dirtyNumbers later))
-    go true = refl
-    go false = refl
-
 module _ (entries : List Dirty) (i : ℕ) where
-  pub page-turn : (page : ℕ) → i < length entries
-      → member page (dirtyNumbers (drop i entries))
-      ≡ ((not (eqb (getD entries i free .first) 0) && eqb page (getD entries i free .page)) || member page (dirtyNumbers (drop (i + 1) entries)))
-  page-turn page h = ap (λ (l : List Dirty). member page (dirtyNumbers l)) (from-cons entries i free h) ∙ numbers-turn page (getD entries i free) (drop (i + 1) entries)
-
-  pub page-found : (page : ℕ) → i < length entries → (not (eqb (getD entries i free .first) 0) && eqb page (getD entries i free .page)) ≡ true
-      → member page (dirtyNumbers (drop i entries)) ≡ true
-  page-found page h e = page-turn page h ∙ rw e
-
-  pub page-passed : (page : ℕ) → i < length entries → (not (eqb (getD entries i free .first) 0) && eqb page (getD entries i free .page)) ≡ false
-      → member page (dirtyNumbers (drop i entries)) ≡ member page (dirtyNumbers (drop (i + 1) entries))
-  page-passed page h e = page-turn page h ∙ rw e
-
-  pub page-end : (page : ℕ) → length entries ≤ i → member page (dirtyNumbers (drop i entries)) ≡ false
+  -- the page numbers that are left
+  pub pages-more : i < length entries → (getD entries i free .first ≡ 0 → ⊥) → dirtyNumbers (drop i entries) ≡ getD entries i free .page ∷ dirtyNumbers (drop (i + 1) entries)
   unfolding dirtyNumbers
-  page-end page h = rw (drop-of-length-le entries h)
+  pages-more h n = rw (from-cons entries i free h, ne-eqb _ 0 n)
+
+  pub pages-same : i < length entries → getD entries i free .first ≡ 0 → dirtyNumbers (drop i entries) ≡ dirtyNumbers (drop (i + 1) entries)
+  unfolding dirtyNumbers
+  pages-same h e = rw (from-cons entries i free h, eq-eqb _ 0 e)
+
+  pub pages-end : length entries ≤ i → dirtyNumbers (drop i entries) ≡ []
+  unfolding dirtyNumbers
+  pages-end h = rw (drop-of-length-le entries h)
 
   -- the first groups that are left
   pub firsts-more : i < length entries → (getD entries i free .first ≡ 0 → ⊥) → firstGroups (drop i entries) ≡ getD entries i free .first ∷ firstGroups (drop (i + 1) entries)
@@ -138,7 +125,7 @@ blocks-total (n ∷ ns) = omega (arith, blocks-total ns)
 module _ (pages frames next : ℕ) (entries : List Dirty) (i : ℕ) where
   pub entries-turn : i < length entries
       → entriesLegal pages frames next i (drop i entries)
-      ≡ (entryLegal pages frames next i (getD entries i free) (drop (i + 1) entries) && entriesLegal pages frames next (i + 1) (drop (i + 1) entries))
+      ≡ (entryLegal pages frames next i (getD entries i free) && entriesLegal pages frames next (i + 1) (drop (i + 1) entries))
   unfolding entriesLegal
   entries-turn h = rw (from-cons entries i free h, add-one)
 
@@ -147,12 +134,34 @@ module _ (pages frames next : ℕ) (entries : List Dirty) (i : ℕ) where
   entries-end h = rw (drop-of-length-le entries h)
 
 module _ (pages frames : ℕ) (staged : List Staged) (count i : ℕ) (fits : count ≤ length staged) where
-  pub waiting-turn : i < count
-      → waitingLegal pages frames (drop i (take count staged))
-      ≡ (stagedLegal pages frames (getD staged i noStaged) (drop (i + 1) (take count staged)) && waitingLegal pages frames (drop (i + 1) (take count staged)))
-  unfolding waitingLegal
-  waiting-turn h = rw (rest-cons staged count i noStaged h fits)
+  pub updates-turn : i < count
+      → updatesLegal pages frames (drop i (take count staged))
+      ≡ (stagedLegal pages frames (getD staged i noStaged) && updatesLegal pages frames (drop (i + 1) (take count staged)))
+  unfolding updatesLegal
+  updates-turn h = rw (rest-cons staged count i noStaged h fits)
 
-  pub waiting-end : count ≤ i → waitingLegal pages frames (drop i (take count staged)) ≡ true
-  unfolding waitingLegal
-  waiting-end h = rw (rest-end staged count i h fits)
+  pub updates-end : count ≤ i → updatesLegal pages frames (drop i (take count staged)) ≡ true
+  unfolding updatesLegal
+  updates-end h = rw (rest-end staged count i h fits)
+
+-- ---- gathering: one number more goes to the end
+
+pub gather-more : (list rest whole : List ℕ) (n x : ℕ) → n < length list → take n list ++ (x ∷ rest) ≡ whole → take (n + 1) (set list n x) ++ rest ≡ whole
+gather-more list rest whole n x h e = ap (λ (l : List ℕ). l ++ rest) (ap (λ (m : ℕ). take m (set list n x)) (add-one n) ∙ take-suc-set list n x h) ∙ append-assoc (take n list) (x ∷ []) rest ∙ e
+
+pub gather-end : (list rest whole : List ℕ) (n : ℕ) → rest ≡ [] → take n list ++ rest ≡ whole → take n list ≡ whole
+gather-end list rest whole n z e = sym (append-nil (take n list)) ∙ ap (λ (l : List ℕ). take n list ++ l) (sym z) ∙ e
+
+module _ (entries : List Dirty) (i : ℕ) (list list′ whole : List ℕ) (n n′ : ℕ) (h : i < length entries) (so-far : take n list ++ dirtyNumbers (drop i entries) ≡ whole) where
+  -- a dirty page's number is gathered
+  pub gathered-more : n < length list → (getD entries i free .first ≡ 0 → ⊥) → list′ ≡ set list n (getD entries i free .page) → n′ ≡ n + 1
+      → take n′ list′ ++ dirtyNumbers (drop (i + 1) entries) ≡ whole
+  gathered-more l some e f =
+      ap (λ (m : ℕ). take m list′ ++ dirtyNumbers (drop (i + 1) entries)) f ∙ ap (λ (x : List ℕ). take (n + 1) x ++ dirtyNumbers (drop (i + 1) entries)) e
+      ∙ gather-more list (dirtyNumbers (drop (i + 1) entries)) whole n (getD entries i free .page) l (ap (λ (x : List ℕ). take n list ++ x) (sym (pages-more entries i h some)) ∙ so-far)
+
+  -- a free frame's is not
+  pub gathered-same : getD entries i free .first ≡ 0 → list′ ≡ list → n′ ≡ n → take n′ list′ ++ dirtyNumbers (drop (i + 1) entries) ≡ whole
+  gathered-same none e f =
+      ap (λ (m : ℕ). take m list′ ++ dirtyNumbers (drop (i + 1) entries)) f ∙ ap (λ (x : List ℕ). take n x ++ dirtyNumbers (drop (i + 1) entries)) e
+      ∙ ap (λ (x : List ℕ). take n list ++ x) (sym (pages-same entries i h none)) ∙ so-far

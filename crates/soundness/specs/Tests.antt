@@ -2,7 +2,7 @@
 -- That these tests together are `sound` is proved in proofs/.
 -- Assumes nothing.
 use Prim.Native.Nat.{ℕ, suc}
-use mathlib.Core.Bool.{Bool, true, not, _&&_, _||_}
+use mathlib.Core.Bool.{Bool, true, _&&_, _||_}
 use mathlib.Core.List.{List, [], _∷_}
 use lib.Dec.{eqb, leb, ltb}
 use Rattle.block.specs.Sizes.{sequenceEnd, groupMost}
@@ -11,7 +11,7 @@ use Rattle.promises.specs.declared.State.{State}
 use Rattle.promises.specs.declared.Dirty.{Dirty}
 use Rattle.promises.specs.declared.Staged.{Staged}
 use Rattle.promises.specs.Contents.{groupsOf}
-use Rattle.promises.specs.Sound.{member, dirtyNumbers, areasOf, sizesLegal, ofOldest, ticketSound, slotSumSound, frameSumSound, sequenceSumSound}
+use Rattle.promises.specs.Sound.{distinct, dirtyNumbers, areasOf, cleaningSound, sizesLegal, ofOldest, ticketSound, slotSumSound, frameSumSound, sequenceSumSound}
 
 -- single numbers in range
 abbrev pub inRange : State → Bool
@@ -28,24 +28,30 @@ fitting state = ticketSound state && slotSumSound state && frameSumSound state &
 unfoldable pub countsLegal : State → Bool
 countsLegal state = inRange state && (sizesLegal (groupsOf state) && ofOldest (state .stored) (groupsOf state)) && fitting state
 
--- a frame is free, or below F with a page below P that no later frame holds and a first group below next
-abbrev pub entryLegal : ℕ → ℕ → ℕ → ℕ → Dirty → List Dirty → Bool
-entryLegal pages frames next frame entry later =
-    eqb (entry .first) 0
-    || (ltb frame frames && ltb (entry .page) pages && ltb (entry .first) next && not (member (entry .page) (dirtyNumbers later)))
+-- a frame is free, or below F with a page below P and a first group below next
+abbrev pub entryLegal : ℕ → ℕ → ℕ → ℕ → Dirty → Bool
+entryLegal pages frames next frame entry = eqb (entry .first) 0 || (ltb frame frames && ltb (entry .page) pages && ltb (entry .first) next)
 
 unfoldable pub entriesLegal : ℕ → ℕ → ℕ → ℕ → List Dirty → Bool
 entriesLegal pages frames next frame [] = true
-entriesLegal pages frames next frame (entry ∷ later) = entryLegal pages frames next frame entry later && entriesLegal pages frames next (suc frame) later
+entriesLegal pages frames next frame (entry ∷ later) = entryLegal pages frames next frame entry && entriesLegal pages frames next (suc frame) later
+
+-- the frames, their pages distinct, and the page that a cleaning names
+abbrev pub pagesLegal : State → Bool
+pagesLegal state =
+    entriesLegal (state .pages) (state .frames) (state .next) 0 (state .dirty) && distinct (dirtyNumbers (state .dirty)) && cleaningSound state
 
 abbrev pub noStaged : Staged
 noStaged = record { page = 0; offset = 0; length = 0; area = 0 }
 
--- an update that waits is in an area below F that no later one holds, and its place is legal
-abbrev pub stagedLegal : ℕ → ℕ → Staged → List Staged → Bool
-stagedLegal pages frames staged later =
-    ltb (staged .area) frames && legalPlace pages (staged .page) (staged .offset) (staged .length) && not (member (staged .area) (areasOf later))
+-- an update that waits is in an area below F, and its place is legal
+abbrev pub stagedLegal : ℕ → ℕ → Staged → Bool
+stagedLegal pages frames staged = ltb (staged .area) frames && legalPlace pages (staged .page) (staged .offset) (staged .length)
 
-unfoldable pub waitingLegal : ℕ → ℕ → List Staged → Bool
-waitingLegal pages frames [] = true
-waitingLegal pages frames (staged ∷ later) = stagedLegal pages frames staged later && waitingLegal pages frames later
+unfoldable pub updatesLegal : ℕ → ℕ → List Staged → Bool
+updatesLegal pages frames [] = true
+updatesLegal pages frames (staged ∷ later) = stagedLegal pages frames staged && updatesLegal pages frames later
+
+-- updates that wait, in distinct areas
+abbrev pub waitingLegal : ℕ → ℕ → List Staged → Bool
+waitingLegal pages frames updates = updatesLegal pages frames updates && distinct (areasOf updates)

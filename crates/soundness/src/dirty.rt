@@ -1,54 +1,32 @@
-// The dirty pages of a state: each frame's entry, and the page that a cleaning names.
+// The dirty pages of a state: each frame's entry, their numbers, and the page that a cleaning names.
 ghost use mathlib.Core.Path.{_≡_};
-ghost use Prim.Native.Nat.{_+_, _<_};
-ghost use lib.ListN.{getD, drop};
-ghost use Rattle.promises.specs.Sound.{member, dirtyNumbers, cleaningSound};
-ghost use Rattle.promises.proofs.Table.{free};
-ghost use Rattle.soundness.specs.Tests.{entryLegal, entriesLegal};
+ghost use Prim.Native.Nat.{_≤_};
+ghost use lib.ListN.{length, take};
+ghost use Rattle.promises.specs.Sound.{dirtyNumbers, names};
+ghost use Rattle.soundness.specs.Tests.{entryLegal, entriesLegal, pagesLegal};
+use crate::numbers;
 use crate::wide;
+use numbers::Numbers;
 use promises::Cleaning;
 use promises::Dirty;
 use promises::State;
 
-// Whether a page is dirty in a frame from a number on.
-pub fn page_from(dirty: [Dirty; 32], from: usize, page: u16) -> bool
-    ensures { λ r. ⌜ r ≡ member page (dirtyNumbers (drop «from» dirty)) ⌝ }
+// Whether a frame is free, or below F with a page below P and a first group below next.
+fn entry_sound(entry: Dirty, frame: usize, pages: usize, frames: usize, next: u64) -> bool
+    ensures { λ r. ⌜ r ≡ entryLegal pages frames next frame entry ⌝ }
 {
-    let mut i = from;
-    while i < 32 {
-        let entry = dirty[i];
-        if (entry.first != 0) & (page == entry.page) {
-            return true;
-        }
-        i += 1;
-    }
-    false
-}
-
-// Whether a frame is free, or holds a page as it has to be and that no later frame holds.
-fn entry_sound(state: State, i: usize) -> bool
-    requires { ⌜ i < 32 ⌝ }
-    ensures { λ r. ⌜ r ≡ entryLegal (state .pages) (state .frames) (state .next) i (getD (state .dirty) i free) (drop (i + 1) (state .dirty)) ⌝ }
-{
-    let entry = state.dirty[i];
-    if entry.first == 0 {
-        return true;
-    }
-    let dirty = state.dirty;
-    let again = page_from(dirty, i + 1, entry.page);
-    (i < state.frames)
-        & (wide::field(entry.page) < state.pages)
-        & (entry.first < state.next)
-        & !again
+    let page = wide::field(entry.page);
+    (entry.first == 0) | ((frame < frames) & (page < pages) & (entry.first < next))
 }
 
 // Whether every frame's entry is as it has to be.
-pub fn pages_sound(state: State) -> bool
+fn entries_sound(state: State) -> bool
     ensures { λ r. ⌜ r ≡ entriesLegal (state .pages) (state .frames) (state .next) 0 (state .dirty) ⌝ }
 {
     let mut i = 0;
     while i < 32 {
-        if !entry_sound(state, i) {
+        let entry = state.dirty[i];
+        if !entry_sound(entry, i, state.pages, state.frames, state.next) {
             return false;
         }
         i += 1;
@@ -56,16 +34,47 @@ pub fn pages_sound(state: State) -> bool
     true
 }
 
-// Whether a cleaning names a dirty page.
-pub fn cleaning_sound(state: State) -> bool
-    ensures { λ r. ⌜ r ≡ cleaningSound state ⌝ }
+// The numbers of the dirty pages.
+pub fn pages_of(dirty: [Dirty; 32]) -> Numbers
+    ensures { λ r. ⌜ (take (r .count) (r .list) ≡ dirtyNumbers dirty) × (r .count ≤ 32) × (length (r .list) ≡ 32) ⌝ }
 {
-    let dirty = state.dirty;
-    let cleaning = state.cleaning;
+    let mut list = [0u16; 32];
+    let mut count = 0;
+    let mut i = 0;
+    while i < 32 {
+        let entry = dirty[i];
+        if entry.first != 0 {
+            list[count] = entry.page;
+            count += 1;
+        }
+        i += 1;
+    }
+    Numbers { count, list }
+}
+
+// Whether a cleaning names one of these pages.
+fn named(cleaning: Cleaning, pages: &[u16]) -> bool
+    ensures { λ r. ⌜ r ≡ names cleaning (now (pages .entry)) ⌝ }
+{
     match cleaning {
         Cleaning::Idle => true,
-        Cleaning::First(page) => page_from(dirty, 0, page),
-        Cleaning::Second(page) => page_from(dirty, 0, page),
-        Cleaning::Third(page) => page_from(dirty, 0, page),
+        Cleaning::First(page) => numbers::member_from(pages, 0, page),
+        Cleaning::Second(page) => numbers::member_from(pages, 0, page),
+        Cleaning::Third(page) => numbers::member_from(pages, 0, page),
     }
+}
+
+// Whether the dirty pages are as they have to be, and a cleaning names one of them.
+pub fn pages_sound(state: State) -> bool
+    ensures { λ r. ⌜ r ≡ pagesLegal state ⌝ }
+{
+    let entries = entries_sound(state);
+    let dirty = state.dirty;
+    let pages = pages_of(dirty);
+    let count = pages.count;
+    let list = pages.list;
+    let apart = numbers::all_distinct(&list[..count]);
+    let cleaning = state.cleaning;
+    let named = named(cleaning, &list[..count]);
+    entries & apart & named
 }

@@ -1,5 +1,6 @@
 // Whether a state is sound, for any bits in it, and the paper's sums D, H, W and V. Knows the state alone, not the areas.
 pub mod dirty;
+pub mod numbers;
 pub mod queue;
 pub mod sums;
 pub mod wide;
@@ -54,6 +55,5 @@ pub fn sound(state: State) -> bool
     let count = sums::queued_updates(state) + state.described;
     let pages = dirty::pages_sound(state);
     let staged = queue::staged_sound(state, count);
-    let cleaning = dirty::cleaning_sound(state);
-    pages & staged & cleaning
+    pages & staged
 }

@@ -1,12 +1,14 @@
 // The queue of a state: its groups' sizes, and the updates that wait in staging.
 ghost use mathlib.Core.Path.{_≡_};
-ghost use Prim.Native.Nat.{_+_, _<_, _≤_};
+ghost use Prim.Native.Nat.{_≤_};
 ghost use mathlib.Core.Bool.{_&&_};
-ghost use lib.ListN.{getD, drop, take};
+ghost use lib.ListN.{length, take};
 ghost use Rattle.promises.specs.Contents.{groupsOf};
-ghost use Rattle.promises.specs.Sound.{member, areasOf, sizesLegal, ofOldest};
-ghost use Rattle.soundness.specs.Tests.{noStaged, stagedLegal, waitingLegal};
+ghost use Rattle.promises.specs.Sound.{areasOf, sizesLegal, ofOldest};
+ghost use Rattle.soundness.specs.Tests.{stagedLegal, updatesLegal, waitingLegal};
+use crate::numbers;
 use crate::wide;
+use numbers::Numbers;
 use promises::Staged;
 use promises::State;
 
@@ -49,46 +51,57 @@ pub fn groups_sound(state: State) -> bool
     sizes & oldest
 }
 
-// Whether an update from an index on, among the first so many, holds a staging area.
-pub fn area_from(state: State, from: usize, count: usize, area: u8) -> bool
-    requires { ⌜ count ≤ 32 ⌝ }
-    ensures { λ r. ⌜ r ≡ member area (areasOf (drop «from» (take count (state .staged)))) ⌝ }
+// Whether an update that waits is in an area below F, and its place legal.
+fn update_sound(staged: Staged, pages: usize, frames: usize) -> bool
+    ensures { λ r. ⌜ r ≡ stagedLegal pages frames staged ⌝ }
 {
-    let mut i = from;
-    while i < count {
-        if area == state.staged[i].area {
-            return true;
-        }
-        i += 1;
-    }
-    false
-}
-
-// Whether an update that waits, of so many, is as it has to be, in an area that no later one holds.
-fn update_sound(state: State, i: usize, count: usize) -> bool
-    requires { ⌜ (count ≤ 32) × (i < count) ⌝ }
-    ensures { λ r. ⌜ r ≡ stagedLegal (state .pages) (state .frames) (getD (state .staged) i noStaged) (drop (i + 1) (take count (state .staged))) ⌝ }
-{
-    let staged = state.staged[i];
     let page = wide::field(staged.page);
     let offset = wide::field(staged.offset);
     let length = wide::field(staged.length);
-    let legal = block::legal_place(state.pages, page, offset, length);
-    let again = area_from(state, i + 1, count, staged.area);
-    (wide::byte(staged.area) < state.frames) & legal & !again
+    let legal = block::legal_place(pages, page, offset, length);
+    (wide::byte(staged.area) < frames) & legal
 }
 
-// Whether the first so many updates are as they have to be.
-pub fn staged_sound(state: State, count: usize) -> bool
+// Whether each of the first so many updates is as it has to be by itself.
+fn updates_sound(state: State, count: usize) -> bool
     requires { ⌜ count ≤ 32 ⌝ }
-    ensures { λ r. ⌜ r ≡ waitingLegal (state .pages) (state .frames) (take count (state .staged)) ⌝ }
+    ensures { λ r. ⌜ r ≡ updatesLegal (state .pages) (state .frames) (take count (state .staged)) ⌝ }
 {
     let mut i = 0;
     while i < count {
-        if !update_sound(state, i, count) {
+        let staged = state.staged[i];
+        if !update_sound(staged, state.pages, state.frames) {
             return false;
         }
         i += 1;
     }
     true
+}
+
+// The areas of the first so many updates.
+pub fn areas_of(staged: [Staged; 32], count: usize) -> Numbers
+    requires { ⌜ count ≤ 32 ⌝ }
+    ensures { λ r. ⌜ (take (r .count) (r .list) ≡ areasOf (take count staged)) × (r .count ≡ count) × (length (r .list) ≡ 32) ⌝ }
+{
+    let mut list = [0u16; 32];
+    let mut i = 0;
+    while i < count {
+        let update = staged[i];
+        list[i] = wide::short(update.area);
+        i += 1;
+    }
+    Numbers { count, list }
+}
+
+// Whether the first so many updates are as they have to be, in distinct areas.
+pub fn staged_sound(state: State, count: usize) -> bool
+    requires { ⌜ count ≤ 32 ⌝ }
+    ensures { λ r. ⌜ r ≡ waitingLegal (state .pages) (state .frames) (take count (state .staged)) ⌝ }
+{
+    let updates = updates_sound(state, count);
+    let staged = state.staged;
+    let areas = areas_of(staged, count);
+    let list = areas.list;
+    let apart = numbers::all_distinct(&list[..count]);
+    updates & apart
 }

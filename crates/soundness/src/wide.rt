@@ -14,3 +14,10 @@ pub fn field(number: u16) -> usize
 {
     number as usize
 }
+
+// An area as one of the gathered numbers.
+pub fn short(number: u8) -> u16
+    ensures { λ r. ⌜ r ≡ number ⌝ }
+{
+    number as u16
+}

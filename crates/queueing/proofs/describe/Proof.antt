@@ -22,10 +22,12 @@ groups-long c = search needs
 staged-long : (c : tie.Start) → length (c .args .state .staged) ≡ 32
 staged-long c = search (needs, length-mapped)
 
-accepted-at : (c : tie.Else1) → let args = c .before .before .before .before .args in describeRefusal (args .state) (length (now (args .staging))) (args .page) (args .offset) (length (now (args .bytes))) ≡ 0
+accepted-at : (c : tie.Else1)
+    → let args = c .before .before .before .before .args in describeRefusal (args .state) (length (now (args .staging))) (args .page) (args .offset) (length (now (args .bytes))) ≡ 0
 accepted-at c = sym (c .before .describe-refusal .ensures .0) ∙ c .if1 .left
 
-describable-at : (c : tie.Else1) → let args = c .before .before .before .before .args in Describable (args .state) (length (now (args .staging))) (args .page) (args .offset) (length (now (args .bytes)))
+describable-at : (c : tie.Else1)
+    → let args = c .before .before .before .before .args in Describable (args .state) (length (now (args .staging))) (args .page) (args .offset) (length (now (args .bytes)))
 describable-at c = describable _ _ _ _ _ (groups-long (c .before .before .before .before)) (accepted-at c)
 
 describe-refusal-requires : tie.Need-describe-refusal-requires
@@ -75,12 +77,16 @@ same-length c = search needs
 
 returns-2 : tie.Need-returns-2
 returns-2 c =
-    let args = c .before .before .before .before .before .before .before .before .before .before .before .before .before .args in
-    let free = c .before .before .before .before .before .before .free-area .ensures in
-    let counted : total (groupsOf (args .state)) + args .state .described ≡ c .before .before .before .before .before .before .before .before .queued-updates .result + args .state .described = sym (ap (λ (n : ℕ). n + args .state .described) (c .before .before .before .before .before .before .before .before .queued-updates .ensures .0)) in
-    describe-done (args .state) (args .page) (args .offset) (c .before .before .before .before .before .before .free-area .result) (c .before .before .before .before .before .byte .result) (now (args .bytes)) (now (args .staging)) _ (c .added .result)
-    (staged-long (c .before .before .before .before .before .before .before .before .before .before .before .before .before)) (accepted-at (c .before .before .before .before .before .before .before .before .before)) (free .0) (ap (λ (n : ℕ). member (c .before .before .before .before .before .before .free-area .result) (areasOf (take n (args .state .staged)))) counted ∙ free .1)
-    (c .added .ensures) (c .before .before .before .before .before .byte .ensures) (c .before .before .before .copy-part .ensures)
+    let start = c .before .before .before .before .before .before .before .before .before .before .before .before .before in
+    let args = start .args in
+    let queued = c .before .before .before .before .before .before .before .before .queued-updates in
+    let free = c .before .before .before .before .before .before .free-area in
+    let byte = c .before .before .before .before .before .byte in
+    let counted : total (groupsOf (args .state)) + args .state .described ≡ queued .result + args .state .described =
+    sym (ap (λ (n : ℕ). n + args .state .described) (queued .ensures .0)) in
+    let unheld = ap (λ (n : ℕ). member (free .result) (areasOf (take n (args .state .staged)))) counted ∙ free .ensures .1 in
+    describe-done (args .state) (args .page) (args .offset) (free .result) (byte .result) (now (args .bytes)) (now (args .staging)) _ (c .added .result)
+    (staged-long start) (accepted-at (c .before .before .before .before .before .before .before .before .before)) (free .ensures .0) unheld (c .added .ensures) (byte .ensures) (c .before .before .before .copy-part .ensures)
 
 pub describe-spec : {M : Type 1} → statement M
 describe-spec =

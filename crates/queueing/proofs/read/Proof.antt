@@ -10,7 +10,8 @@ use native.Mathlib.Omega.{arith}
 use Rattle.queueing.proofs.read.Statement.{statement}
 use Rattle.queueing.proofs.read.Tie as tie
 
-readable-at : (c : tie.Else1) → let args = c .before .before .before .before .args in Readable (args .state) (length (now (args .home))) (length (now (args .frames))) (args .page)
+readable-at : (c : tie.Else1)
+    → let args = c .before .before .before .before .args in Readable (args .state) (length (now (args .home))) (length (now (args .frames))) (args .page)
 readable-at c = readable _ _ _ _ (sym (c .before .read-refusal .ensures .0) ∙ c .if1 .left)
 
 read-refusal-requires : tie.Need-read-refusal-requires
@@ -48,7 +49,9 @@ part-result-end c = let k = readable-at (c .before .before .before) in omega ari
 returns-2 : tie.Need-returns-2
 returns-2 c =
     let args = c .before .before .before .before .before .before .before .before .args in
-    read-frame (args .state) (args .home) (args .frames) (args .page) _ (c .before .before .before .before .before .read-refusal .ensures .0) _ (c .before .before .before .frame-of .result) (c .before .before .before .frame-of .ensures .0) (c .before .if2 .taken) (c .before .before .before .before .if1 .left) refl refl
+    let decided = c .before .before .before .before .before .read-refusal .ensures .0 in
+    let found = c .before .before .before .frame-of in
+    read-frame (args .state) (args .home) (args .frames) (args .page) _ decided _ (found .result) (found .ensures .0) (c .before .if2 .taken) (c .before .before .before .before .if1 .left) refl refl
 
 mul-start-2 : tie.Need-mul-start-2
 mul-start-2 c = let k = readable-at (c .before .before .before) in omega arith
@@ -68,7 +71,9 @@ part-result-end-2 c = let k = readable-at (c .before .before .before) in omega a
 returns-3 : tie.Need-returns-3
 returns-3 c =
     let args = c .before .before .before .before .before .before .before .before .args in
-    read-home (args .state) (args .home) (args .frames) (args .page) _ (c .before .before .before .before .before .read-refusal .ensures .0) _ (c .before .before .before .frame-of .result) (c .before .before .before .frame-of .ensures .0) (c .before .if2 .left) (c .before .before .before .before .if1 .left) refl refl
+    let decided = c .before .before .before .before .before .read-refusal .ensures .0 in
+    let found = c .before .before .before .frame-of in
+    read-home (args .state) (args .home) (args .frames) (args .page) _ decided _ (found .result) (found .ensures .0) (c .before .if2 .left) (c .before .before .before .before .if1 .left) refl refl
 
 pub read-spec : {M : Type 1} → statement M
 read-spec =

@@ -39,11 +39,12 @@ pages-sound-requires c κs = search needs
 staged-sound-requires : tie.Need-staged-sound-requires
 staged-sound-requires c κs = omega (arith, c .before .before .queued-updates .ensures .0, waiting-few (c .before .before .before .before .before .args .state) (counts-at (c .before .before .before)))
 
-cleaning-sound-requires : tie.Need-cleaning-sound-requires
-cleaning-sound-requires c κs = search needs
-
 returns-2 : tie.Need-returns-2
-returns-2 c = decided (c .before .before .before .before .before .before .before .args .state) (groups-long (c .before .before .before .before .before .before .before)) (staged-long (c .before .before .before .before .before .before .before)) (counts-at (c .before .before .before .before .before)) (c .before .before .before .before .queued-updates .result) _ _ _ (c .before .before .before .before .queued-updates .ensures .0) (c .before .before .pages-sound .ensures) (c .before .staged-sound .ensures) (c .cleaning-sound .ensures)
+returns-2 c =
+    let start = c .before .before .before .before .before .before in
+    let queued = c .before .before .before .queued-updates in
+    decided (start .args .state) (groups-long start) (staged-long start) (counts-at (c .before .before .before .before))
+    (queued .result) _ _ (queued .ensures .0) (c .before .pages-sound .ensures) (c .staged-sound .ensures)
 
 pub sound-spec : {M : Type 1} → statement M
 sound-spec =
@@ -55,5 +56,4 @@ sound-spec =
     add-count
     pages-sound-requires
     staged-sound-requires
-    cleaning-sound-requires
     returns-2)

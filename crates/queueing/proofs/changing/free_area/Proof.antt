@@ -1,42 +1,53 @@
--- `changing::free_area` meets its contract. The loop's invariant: fewer waiting areas are left from here on than areas.
+-- `changing::free_area` meets its contract. The loop's invariant: fewer held areas are left from here on than areas.
 -- Assumes nothing.
-use Prim.Native.Nat.{_-_, _+_, _<_}
-use mathlib.Core.Path.{_≡_, sym, _∙_}
-use lib.ListN.{length, take}
+use Prim.Native.Nat.{ℕ, _-_, _+_, _<_}
+use mathlib.Core.Path.{_≡_, sym, ap, _∙_}
+use mathlib.Core.Bool.{true}
+use lib.ListN.{take, length-take}
 use lib.Seq.{length-take-le}
 use borrow.Author.Tests.{not-true, not-false}
-use Rattle.promises.specs.Sound.{areasOf}
-use Rattle.soundness.proofs.Scans.{length-mapped}
-use Rattle.queueing.proofs.Areas.{above, above-length, above-held, areas-length}
+use Rattle.promises.specs.Sound.{member}
+use Rattle.queueing.proofs.Areas.{above, above-length, above-held}
 use borrow.Author.Needs.{needs}
 use native.Mathlib.Omega.{arith}
 use Rattle.queueing.proofs.changing.free_area.Statement.{statement}
 use Rattle.queueing.proofs.changing.free_area.Tie as tie
 
 abbrev Inv-loop : tie.InvT-loop
-Inv-loop state count frames area₀ area = above area (areasOf (take count (state .staged))) + area < frames
+Inv-loop count list frames area₀ area = above area (take count list) + area < frames
 
 abbrev μ-loop : tie.MeasureT-loop
-μ-loop state count frames area₀ area = frames - area
+μ-loop count list frames area₀ area = frames - area
 
-long-at : (c : tie.Start Inv-loop μ-loop) → length (c .args .state .staged) ≡ 32
-long-at c = search (needs, length-mapped)
+areas-of-requires : tie.Need-areas-of-requires Inv-loop μ-loop
+areas-of-requires c κs = search needs
 
 cast-frames : tie.Need-cast-frames Inv-loop μ-loop
 cast-frames c = search needs
 
 loop-holds : tie.Need-loop-holds Inv-loop μ-loop
 loop-holds c =
-    let args = c .before .args in
-    let updates = take (args .count) (args .state .staged) in
-    let long = long-at (c .before) in
-    omega (arith, above-length 0 (areasOf updates), areas-length updates, length-take-le (args .count) (args .state .staged) (omega arith))
+    let list = c .before .before .areas-of .result .list in
+    omega (arith, above-length 0 (take (c .before .before .before .before .args .count) list), length-take (c .before .before .before .before .args .count) list)
 
-area-from-requires : tie.Need-area-from-requires Inv-loop μ-loop
-area-from-requires c κs = search needs
+short-requires : tie.Need-short-requires Inv-loop μ-loop
+short-requires c κs = search needs
+
+array-share-prefix-list : tie.Need-array-share-prefix-list Inv-loop μ-loop
+array-share-prefix-list c = omega (arith, c .before .before .before .before .before .areas-of .ensures)
+
+slice-aggregate-member-from : tie.Need-slice-aggregate-member-from Inv-loop μ-loop
+slice-aggregate-member-from c = sym (length-take-le _ _ (omega (arith, c .before .before .before .before .before .before .areas-of .ensures)))
+
+member-from-requires : tie.Need-member-from-requires Inv-loop μ-loop
+member-from-requires c κs = search needs
 
 returns : tie.Need-returns Inv-loop μ-loop
-returns c = (search needs, sym (c .before .area-from .ensures) ∙ not-true _ (c .if1 .taken))
+returns c =
+    let areas = c .before .before .before .before .before .before .before .before .areas-of .ensures in
+    let list = c .before .before .before .before .before .before .before .before .areas-of .result .list in
+    let same = ap (λ (n : ℕ). take n list) (sym (areas .1)) ∙ areas .0 in
+    (search needs, sym (ap (member (c .before .before .before .before .before .loop .area)) same) ∙ ap (λ (a : ℕ). member a (take (c .before .before .before .before .before .before .before .before .before .before .args .count) list)) (sym (c .before .before .before .short .ensures)) ∙ sym (c .before .member-from .ensures) ∙ not-true _ (c .if1 .taken))
 
 add-area : tie.Need-add-area Inv-loop μ-loop
 add-area c = search needs
@@ -46,8 +57,10 @@ loop-less c = search needs
 
 loop-again : tie.Need-loop-again Inv-loop μ-loop
 loop-again c =
-    let args = c .before .before .before .before .before .args in
-    omega (arith, above-held (c .before .before .before .loop .area) (areasOf (take (args .count) (args .state .staged))) (sym (c .before .area-from .ensures) ∙ not-false _ (c .if1 .left)))
+    let list = c .before .before .before .before .before .before .before .before .areas-of .result .list in
+    let held : member (c .before .before .before .before .before .loop .area) (take (c .before .before .before .before .before .before .before .before .before .before .args .count) list) ≡ true =
+    ap (λ (a : ℕ). member a (take (c .before .before .before .before .before .before .before .before .before .before .args .count) list)) (sym (c .before .before .before .short .ensures)) ∙ sym (c .before .member-from .ensures) ∙ not-false _ (c .if1 .left) in
+    omega (arith, above-held (c .before .before .before .before .before .loop .area) (take (c .before .before .before .before .before .before .before .before .before .before .args .count) list) held)
 
 returns-2 : tie.Need-returns-2 Inv-loop μ-loop
 returns-2 c = absurd (omega arith)
@@ -58,9 +71,13 @@ free-area-spec =
     (tie.spec
     Inv-loop
     μ-loop
+    areas-of-requires
     cast-frames
     loop-holds
-    area-from-requires
+    short-requires
+    array-share-prefix-list
+    slice-aggregate-member-from
+    member-from-requires
     returns
     add-area
     loop-less

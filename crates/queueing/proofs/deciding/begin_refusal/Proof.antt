@@ -2,7 +2,11 @@
 -- Assumes nothing.
 use mathlib.Core.Path.{_≡_, sym, _∙_}
 use mathlib.Core.Bool.{true}
+use Prim.Native.Nat.{_+_}
+use lib.Dec.{leb}
 use borrow.Author.Tests.{not-true, not-false, eq-eqb, ne-eqb}
+use Rattle.block.specs.Sizes.{sequenceEnd}
+use Rattle.promises.specs.Sums.{waitingBlocks}
 use Rattle.promises.specs.Sound.{sound}
 use Rattle.promises.specs.Begin.{beginInRange, beginRefusal}
 use Rattle.queueing.proofs.Refusals.{in-range-most}
@@ -16,6 +20,10 @@ sound-at c = sym (c .before .sound .ensures) ∙ not-false _ (c .if1 .left)
 
 range-at : (c : tie.Else2) → beginInRange (c .before .before .before .before .args .state) (c .before .before .before .before .args .u) ≡ true
 range-at c = sym (c .before .begin-in-range .ensures) ∙ not-false _ (c .if2 .left)
+
+sequences-at : (c : tie.Else4)
+    → let args = c .before .before .before .before .before .before .before .before .before .args in leb (args .state .next + waitingBlocks (args .state) + args .u + 1) sequenceEnd ≡ true
+sequences-at c = sym (c .before .sequences-left .ensures) ∙ not-false _ (c .if4 .left)
 
 sound-requires : tie.Need-sound-requires
 sound-requires c κs = search needs
@@ -56,12 +64,12 @@ begin-has-room-requires c κs =
 returns-5 : tie.Need-returns-5
 unfolding beginRefusal
 returns-5 c =
-    (simp (sound-at (c .before .before .before .before .before .before .before .before .before), range-at (c .before .before .before .before .before .before .before), eq-eqb _ _ (c .before .before .before .before .before .if3 .left), sym (c .before .before .before .sequences-left .ensures) ∙ not-false _ (c .before .before .if4 .left), sym (c .before .begin-has-room .ensures) ∙ not-true _ (c .if5 .taken)), omega arith)
+    (simp (sound-at (c .before .before .before .before .before .before .before .before .before), range-at (c .before .before .before .before .before .before .before), eq-eqb _ _ (c .before .before .before .before .before .if3 .left), sequences-at (c .before .before), sym (c .before .begin-has-room .ensures) ∙ not-true _ (c .if5 .taken)), omega arith)
 
 returns-6 : tie.Need-returns-6
 unfolding beginRefusal
 returns-6 c =
-    (simp (sound-at (c .before .before .before .before .before .before .before .before .before), range-at (c .before .before .before .before .before .before .before), eq-eqb _ _ (c .before .before .before .before .before .if3 .left), sym (c .before .before .before .sequences-left .ensures) ∙ not-false _ (c .before .before .if4 .left), sym (c .before .begin-has-room .ensures) ∙ not-false _ (c .if5 .left)), omega arith)
+    (simp (sound-at (c .before .before .before .before .before .before .before .before .before), range-at (c .before .before .before .before .before .before .before), eq-eqb _ _ (c .before .before .before .before .before .if3 .left), sequences-at (c .before .before), sym (c .before .begin-has-room .ensures) ∙ not-false _ (c .if5 .left)), omega arith)
 
 pub begin-refusal-spec : {M : Type 1} → statement M
 begin-refusal-spec =

@@ -1,69 +1,53 @@
--- `dirty::pages_sound` meets its contract. The loop's invariant: all entries are legal if those left are.
+-- `dirty::pages_sound` meets its contract: the gathered numbers are those of the dirty pages.
 -- Assumes nothing.
-use Prim.Native.Nat.{_-_, _≤_}
-use mathlib.Core.Path.{_≡_, refl, sym, _∙_}
-use lib.ListN.{length, drop}
-use borrow.Author.Tests.{not-true, not-false}
-use Rattle.soundness.specs.Tests.{entriesLegal}
-use Rattle.soundness.proofs.Scans.{length-mapped, entries-turn, entries-end}
+use mathlib.Core.Path.{sym, ap, _∙_}
+use lib.ListN.{length-take}
+use Rattle.promises.specs.Sound.{distinct, names}
 use borrow.Author.Needs.{needs}
 use native.Mathlib.Omega.{arith}
 use Rattle.soundness.proofs.dirty.pages_sound.Statement.{statement}
 use Rattle.soundness.proofs.dirty.pages_sound.Tie as tie
 
-abbrev Inv-loop : tie.InvT-loop
-Inv-loop state i₀ i = (i ≤ 32) × (entriesLegal (state .pages) (state .frames) (state .next) i (drop i (state .dirty)) ≡ entriesLegal (state .pages) (state .frames) (state .next) 0 (state .dirty))
+entries-sound-requires : tie.Need-entries-sound-requires
+entries-sound-requires c κs = search needs
 
-abbrev μ-loop : tie.MeasureT-loop
-μ-loop state i₀ i = 32 - i
+pages-of-requires : tie.Need-pages-of-requires
+pages-of-requires c κs = search needs
 
-loop-holds : tie.Need-loop-holds Inv-loop μ-loop
-loop-holds c = (search needs, refl)
+array-share-prefix-list : tie.Need-array-share-prefix-list
+array-share-prefix-list c = omega (arith, c .before .pages-of .ensures)
 
-entry-sound-requires : tie.Need-entry-sound-requires Inv-loop μ-loop
-entry-sound-requires c κs = search needs
+slice-aggregate-all-distinct : tie.Need-slice-aggregate-all-distinct
+slice-aggregate-all-distinct c = omega (arith, length-take (c .before .before .pages-of .result .count) (c .before .before .pages-of .result .list), c .before .before .pages-of .ensures)
 
-returns : tie.Need-returns Inv-loop μ-loop
+all-distinct-requires : tie.Need-all-distinct-requires
+all-distinct-requires c κs = search needs
+
+array-share-prefix-list-2 : tie.Need-array-share-prefix-list-2
+array-share-prefix-list-2 c = omega (arith, c .before .before .before .pages-of .ensures)
+
+slice-aggregate-named : tie.Need-slice-aggregate-named
+slice-aggregate-named c = omega (arith, length-take (c .before .before .before .before .pages-of .result .count) (c .before .before .before .before .pages-of .result .list), c .before .before .before .before .pages-of .ensures)
+
+named-requires : tie.Need-named-requires
+named-requires c κs = search needs
+
+returns : tie.Need-returns
 returns c =
-    let s = c .before .before .before .before .args .state in
-    let at = c .before .before .before .loop in
-    let long : length (s .dirty) ≡ 32 = search (needs, length-mapped) in
-    let turn = entries-turn (s .pages) (s .frames) (s .next) (s .dirty) (at .i) (omega arith) in
-    let fails = sym (c .before .entry-sound .ensures) ∙ not-true _ (c .if1 .taken) in
-    sym (turn ∙ rw fails) ∙ at .inv .1
-
-add-i : tie.Need-add-i Inv-loop μ-loop
-add-i c = search needs
-
-loop-less : tie.Need-loop-less Inv-loop μ-loop
-loop-less c = search needs
-
-loop-again : tie.Need-loop-again Inv-loop μ-loop
-loop-again c =
-    let s = c .before .before .before .before .args .state in
-    let at = c .before .before .before .loop in
-    let long : length (s .dirty) ≡ 32 = search (needs, length-mapped) in
-    let turn = entries-turn (s .pages) (s .frames) (s .next) (s .dirty) (at .i) (omega arith) in
-    let passes = sym (c .before .entry-sound .ensures) ∙ not-false _ (c .if1 .left) in
-    (search needs, sym (turn ∙ rw passes) ∙ at .inv .1)
-
-returns-2 : tie.Need-returns-2 Inv-loop μ-loop
-returns-2 c =
-    let s = c .before .before .args .state in
-    let at = c .before .loop in
-    let long : length (s .dirty) ≡ 32 = search (needs, length-mapped) in
-    sym (entries-end (s .pages) (s .frames) (s .next) (s .dirty) (at .i) (omega arith)) ∙ at .inv .1
+    let s = c .before .before .before .before .before .before .before .before .args .state in
+    let pages = c .before .before .before .before .before .pages-of .ensures .0 in
+    rw (c .before .before .before .before .before .before .before .entries-sound .ensures, c .before .before .all-distinct .ensures ∙ ap distinct pages, c .named .ensures ∙ ap (names (s .cleaning)) pages)
 
 pub pages-sound-spec : {M : Type 1} → statement M
 pages-sound-spec =
     tie.close
     (tie.spec
-    Inv-loop
-    μ-loop
-    loop-holds
-    entry-sound-requires
-    returns
-    add-i
-    loop-less
-    loop-again
-    returns-2)
+    entries-sound-requires
+    pages-of-requires
+    array-share-prefix-list
+    slice-aggregate-all-distinct
+    all-distinct-requires
+    array-share-prefix-list-2
+    slice-aggregate-named
+    named-requires
+    returns)

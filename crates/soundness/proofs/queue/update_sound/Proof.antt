@@ -4,12 +4,6 @@ use borrow.Author.Needs.{needs}
 use Rattle.soundness.proofs.queue.update_sound.Statement.{statement}
 use Rattle.soundness.proofs.queue.update_sound.Tie as tie
 
-mul-staged : tie.Need-mul-staged
-mul-staged c = search needs
-
-element-copy-out-staged : tie.Need-element-copy-out-staged
-element-copy-out-staged c = search needs
-
 field-requires : tie.Need-field-requires
 field-requires c κs = search needs
 
@@ -22,29 +16,19 @@ field-requires-3 c κs = search needs
 legal-place-requires : tie.Need-legal-place-requires
 legal-place-requires c κs = search needs
 
-add-area-from : tie.Need-add-area-from
-add-area-from c = search needs
-
-area-from-requires : tie.Need-area-from-requires
-area-from-requires c κs = search needs
-
 byte-requires : tie.Need-byte-requires
 byte-requires c κs = search needs
 
 returns : tie.Need-returns
-returns c = rw (c .byte .ensures, c .before .before .legal-place .ensures, c .before .area-from .ensures, c .before .before .before .before .before .field .ensures, c .before .before .before .before .field2 .ensures, c .before .before .before .field3 .ensures)
+returns c = rw (c .byte .ensures, c .before .legal-place .ensures, c .before .before .before .before .field .ensures, c .before .before .before .field2 .ensures, c .before .before .field3 .ensures)
 
 pub update-sound-spec : {M : Type 1} → statement M
 update-sound-spec =
     tie.close
     (tie.spec
-    mul-staged
-    element-copy-out-staged
     field-requires
     field-requires-2
     field-requires-3
     legal-place-requires
-    add-area-from
-    area-from-requires
     byte-requires
     returns)

@@ -1,0 +1,39 @@
+// Numbers gathered from the state's arrays, and whether they are distinct.
+ghost use mathlib.Core.Path.{_≡_};
+ghost use lib.ListN.{drop};
+ghost use Rattle.promises.specs.Sound.{member, distinct};
+
+// The first count numbers of a list: page numbers or areas.
+pub struct Numbers {
+    pub count: usize,
+    pub list: [u16; 32],
+}
+
+// Whether a number stands among others from an index on.
+pub fn member_from(numbers: &[u16], from: usize, number: u16) -> bool
+    ensures { λ r. ⌜ r ≡ member number (drop «from» (now (numbers .entry))) ⌝ }
+{
+    let mut i = from;
+    while i < numbers.len() {
+        if number == numbers[i] {
+            return true;
+        }
+        i += 1;
+    }
+    false
+}
+
+// Whether no number stands twice.
+pub fn all_distinct(numbers: &[u16]) -> bool
+    ensures { λ r. ⌜ r ≡ distinct (now (numbers .entry)) ⌝ }
+{
+    let mut i = 0;
+    while i < numbers.len() {
+        let number = numbers[i];
+        if member_from(numbers, i + 1, number) {
+            return false;
+        }
+        i += 1;
+    }
+    true
+}
