@@ -1,0 +1,4 @@
+pub mod Decision
+pub mod Choosing
+pub mod Storing
+pub mod Stepped

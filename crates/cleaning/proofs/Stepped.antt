@@ -1,0 +1,158 @@
+-- An accepted Clean step keeps its whole promise: the first half, the second half, or the clean block.
+-- Assumes nothing.
+use mathlib.Core.Path.{_≡_, refl, sym, ap, _∙_, subst}
+use mathlib.Core.Bool.{true}
+use mathlib.Core.List.{List, []}
+use Prim.Native.Nat.{ℕ, _+_, _*_, _^_, _≤_, _<_}
+use native.Mathlib.Omega.{arith}
+use lib.ListN.{length, getD}
+use Rattle.block.proofs.Tests.{tests}
+use Rattle.promises.specs.declared.State.{State}
+use Rattle.promises.specs.declared.Dirty.{Dirty}
+use Rattle.promises.specs.declared.Cleaning.{Cleaning}
+use Rattle.promises.specs.declared.Cleaning.the-variants.{Idle, First, Second, Third}
+use Rattle.promises.specs.Areas.{pageAt, firstHalf, secondHalf, withFirstHalf, withSecondHalf}
+use Rattle.promises.specs.Blocks.{clean, stored}
+use Rattle.promises.specs.DirtyPages.{DirtyPage, at, lookUp, without, keepFromOf}
+use Rattle.promises.specs.Contents.{Contents, contentsOf, dirtyOf}
+use Rattle.promises.specs.Sums.{dirtyCount, firstGroups, smallest, sequencesTaken}
+use Rattle.promises.specs.Sound.{sound, names, member, dirtyNumbers}
+use Rattle.promises.specs.CleanStep.{Takes, cleanStore, cleanStored, thirdRefusal, cleanRefusalOf, CleanStep, CleanSteps}
+use Rattle.promises.proofs.Soundness.{Sound, sound-of, of-sound}
+use Rattle.promises.proofs.Changes.{cleaningTo, sound-cleaning}
+use Rattle.promises.proofs.Promised.{clean-accepts}
+use Rattle.table.specs.Search.{free}
+use Rattle.table.specs.Table.{Holds}
+use Rattle.table.proofs.Holding.{held-keep, sound-holds}
+use Rattle.stepping.specs.Tables.{tableWith, tableOf}
+use Rattle.stepping.proofs.Held.{held-named}
+use Rattle.cleaning.specs.Cleans.{entryAt, rankOf, TakesFrame, Named, Chosen, Fitting, Cleaned, cleanDone, doneWith}
+use Rattle.cleaning.proofs.Decision.{Accepted, accepted, block-passed}
+use Rattle.cleaning.proofs.Choosing.{first-used, first-least, pages-small, frames-below, look-frame, look-least}
+use Rattle.cleaning.proofs.Storing.{sound-clean}
+
+-- ---- the frame that is cleaned
+
+-- an idle cleaning's is the one that comes first
+pub chosen-first : (s : State) (frame : ℕ) → Sound s → (dirtyCount s ≡ 0 → ⊥) → s .cleaning ≡ Idle
+    → ((other : ℕ) → other < length (s .dirty) → rankOf (entryAt s frame) ≤ rankOf (entryAt s other)) → Chosen s frame
+chosen-first s frame f some e least =
+    let used : entryAt s frame .first ≡ 0 → ⊥ = first-used s f frame some least in
+    record { below = frames-below s f frame used; used = used; takes = subst (λ (c : Cleaning). TakesFrame c s frame) (sym e) least }
+
+-- a named page's is the frame that holds it
+pub chosen-named : (s : State) (page frame : ℕ) (c : Cleaning) → s .cleaning ≡ c → Named s page frame → TakesFrame c s frame → Chosen s frame
+chosen-named s page frame c e n t = record { below = n .below; used = n .used; takes = subst (λ (x : Cleaning). TakesFrame x s frame) (sym e) t }
+
+-- the page that a cleaning names is dirty
+pub names-dirty : (s : State) (c : Cleaning) → sound s ≡ true → s .cleaning ≡ c → names c (dirtyNumbers (s .dirty)) ≡ true
+names-dirty s c h e = subst (λ (x : Cleaning). names x (dirtyNumbers (s .dirty)) ≡ true) e (sound-of s h .cleaning)
+
+-- ---- THE ACCEPTED STEP
+module _ (s : State) (log home frames : List ℕ) (accepts : cleanRefusalOf s log home frames ≡ 0) (frame : ℕ) (chosen : Chosen s frame) (long : length (s .dirty) ≡ 32) where
+  tests-passed : Accepted s (length log) (length home) (length frames)
+  tests-passed = accepted s (length log) (length home) (length frames) accepts
+
+  facts : Sound s
+  facts = sound-of s (tests-passed .isSound)
+
+  abbrev page : ℕ
+  page = entryAt s frame .page
+
+  abbrev entry : DirtyPage
+  entry = record { page = page; first = entryAt s frame .first; bytes = pageAt frames frame }
+
+  abbrev pages : List DirtyPage
+  pages = dirtyOf s frames
+
+  page-found : lookUp page pages ≡ at entry
+  page-found = look-frame s facts frames frame (omega (arith, chosen .below, facts .frames .1)) (chosen .used)
+
+  pub fitting : Fitting s (length home) (length frames) frame
+  fitting =
+      let g = simp tests at (tests-passed .fit) in
+      let p = pages-small s facts frame (chosen .used) in
+      let l = chosen .below in
+      let few = facts .frames .1 in
+      let most = facts .pages .1 in
+      record { frameFew = omega arith; pageFew = omega arith; pageWithin = omega arith; frameWithin = omega arith }
+
+  takes-by : (c : Cleaning) → TakesFrame c s frame → Takes c pages page entry
+  takes-by Idle t =
+      λ other found q. look-least (entry .first) other found frames 0 (s .dirty) (λ i h n. first-least s facts frame i (chosen .used) n (t i h)) q
+  takes-by (First named) t = sym t
+  takes-by (Second named) t = sym t
+  takes-by (Third named) t = sym t
+
+  -- the step of a cleaning that is at this store
+  step-by : (c : Cleaning) (r : State) (log′ home′ : List ℕ) → s .cleaning ≡ c → sound r ≡ true
+      → log′ ≡ cleanStore c s log home pages (contentsOf s []) page entry .log → home′ ≡ cleanStore c s log home pages (contentsOf s []) page entry .home
+      → ((staging : List ℕ) → contentsOf r staging ≡ cleanStore c s log home pages (contentsOf s staging) page entry .contents)
+      → ((other : ℕ) → lookUp other (dirtyOf r frames) ≡ lookUp other (cleanStore c s log home pages (contentsOf s []) page entry .dirtyPages))
+      → CleanSteps s log home frames (doneWith r) log′ home′
+  step-by c r log′ home′ e so l h k d =
+      clean-accepts s log home frames (doneWith r) log′ home′ accepts refl
+      (record {
+        page = page;
+        entry = entry;
+        found = page-found;
+        takes = takes-by (s .cleaning) (chosen .takes);
+        answerIs = refl;
+        staysSound = so;
+        logIs = l ∙ ap (λ (x : Cleaning). cleanStore x s log home pages (contentsOf s []) page entry .log) (sym e);
+        homeIs = h ∙ ap (λ (x : Cleaning). cleanStore x s log home pages (contentsOf s []) page entry .home) (sym e);
+        contentsAre = λ staging. k staging ∙ ap (λ (x : Cleaning). cleanStore x s log home pages (contentsOf s staging) page entry .contents) (sym e);
+        dirtyAre = λ other. d other ∙ ap (λ (x : Cleaning). lookUp other (cleanStore x s log home pages (contentsOf s []) page entry .dirtyPages)) (sym e);
+      })
+
+  -- the page is dirty
+  page-named : member page (dirtyNumbers (s .dirty)) ≡ true
+  page-named = held-named (tableOf s) frames pages (sound-holds s frames (tests-passed .isSound)) page entry page-found
+
+  half-sound : (c : Cleaning) (r : State) → names c (dirtyNumbers (s .dirty)) ≡ true → r ≡ cleaningTo s c → sound r ≡ true
+  half-sound c r n e = of-sound r (subst Sound (sym e) (sound-cleaning s c facts n))
+
+  module _ (r : State) (home′ : List ℕ) where
+    pub idle-steps : s .cleaning ≡ Idle → r ≡ cleaningTo s (Second page) → home′ ≡ withFirstHalf home page (firstHalf (pageAt frames frame))
+        → CleanSteps s log home frames (doneWith r) log home′
+    unfolding cleanStore
+    idle-steps e t h =
+        step-by Idle r log home′ e (half-sound (Second page) r page-named t) refl h (λ staging. ap (λ (x : State). contentsOf x staging) t)
+        (λ other. ap (λ (x : State). lookUp other (dirtyOf x frames)) t)
+
+    pub first-steps : (named : ℕ) → s .cleaning ≡ First named → r ≡ cleaningTo s (Second page) → home′ ≡ withFirstHalf home page (firstHalf (pageAt frames frame))
+        → CleanSteps s log home frames (doneWith r) log home′
+    unfolding cleanStore
+    first-steps named e t h =
+        step-by (First named) r log home′ e (half-sound (Second page) r page-named t) refl h (λ staging. ap (λ (x : State). contentsOf x staging) t)
+        (λ other. ap (λ (x : State). lookUp other (dirtyOf x frames)) t)
+
+    pub second-steps : (named : ℕ) → s .cleaning ≡ Second named → r ≡ cleaningTo s (Third page) → home′ ≡ withSecondHalf home page (secondHalf (pageAt frames frame))
+        → CleanSteps s log home frames (doneWith r) log home′
+    unfolding cleanStore
+    second-steps named e t h =
+        step-by (Second named) r log home′ e (half-sound (Third page) r page-named t) refl h (λ staging. ap (λ (x : State). contentsOf x staging) t)
+        (λ other. ap (λ (x : State). lookUp other (dirtyOf x frames)) t)
+
+  -- the sequence of a clean block that is accepted
+  third-passed : (named : ℕ) → s .cleaning ≡ Third named → (s .stored ≡ 0) × (sequencesTaken s ≡ 2 ^ 48 → ⊥)
+  third-passed named e = block-passed s named (ap (thirdRefusal s) (sym e) ∙ tests-passed .third)
+
+  -- what the clean block's store leans on
+  pub third-ready : (named : ℕ) → s .cleaning ≡ Third named
+      → (frame < 32) × (s .frames ≤ 32) × (1 ≤ s .slots) × (s .slots ≤ 1024) × (length log ≡ s .slots * 512) × (s .next < 2 ^ 48)
+  third-ready named e =
+      let g = simp tests at (tests-passed .fit) in
+      let n : sequencesTaken s ≡ 2 ^ 48 → ⊥ = third-passed named e .1 in
+      let few = facts .frames .1 in
+      (omega (arith, chosen .below), few, omega (arith, facts .slots .0), facts .slots .1, omega arith, omega (arith, facts .sequenceSum, n))
+
+  pub third-steps : (named : ℕ) (r : State) (log′ : List ℕ) → s .cleaning ≡ Third named → Cleaned s log frame r log′ → CleanSteps s log home frames (doneWith r) log′ home
+  unfolding cleanStore
+  third-steps named r log′ e m =
+      let p = third-passed named e in
+      let held : Holds (tableWith s (r .dirty)) frames (without page pages) = m .holds frames pages (sound-holds s frames (tests-passed .isSound)) in
+      step-by (Third named) r log′ home e
+      (of-sound r (subst Sound (sym (m .stateIs)) (sound-clean s frames page entry (r .dirty) facts (p .0) (p .1) page-found held)))
+      (m .logIs ∙ ap (λ (n : ℕ). stored (s .slots) log (s .next) (record { kind = clean page; keepFrom = n; ticket = s .ticket })) (held-keep (tableWith s (r .dirty)) frames (without page pages) held (s .next)))
+      refl (λ staging. ap (λ (x : State). contentsOf x staging) (m .stateIs)) (held .looks)

@@ -1,0 +1,88 @@
+-- The parts of Clean step: the frame of the page that is cleaned, and the state once its clean block is stored.
+-- Assumes nothing.
+use Prim.Native.Nat.{ℕ, _+_, _-_, _*_, _^_, _≤_, _<_}
+use mathlib.Core.Path.{_≡_}
+use mathlib.Core.Bool.{cond}
+use mathlib.Core.List.{List}
+use lib.Dec.{eqb}
+use lib.ListN.{length, getD}
+use Rattle.promises.specs.declared.State.{State}
+use Rattle.promises.specs.declared.Dirty.{Dirty}
+use Rattle.promises.specs.declared.Cleaning.{Cleaning}
+use Rattle.promises.specs.declared.Cleaning.the-variants.{Idle, First, Second, Third}
+use Rattle.promises.specs.declared.Answer.the-variants.{Done}
+use Rattle.promises.specs.declared.Outcome.{Outcome}
+use Rattle.promises.specs.Blocks.{clean, stored}
+use Rattle.promises.specs.DirtyPages.{DirtyPage, without}
+use Rattle.promises.specs.Sums.{firstGroups, smallest}
+use Rattle.block.specs.Sizes.{pageSize}
+use Rattle.table.specs.Search.{free}
+use Rattle.table.specs.Table.{Holds}
+use Rattle.stepping.specs.Tables.{tableWith, tableOf}
+
+-- the entry of a frame
+abbrev pub entryAt : State → ℕ → Dirty
+entryAt state frame = getD (state .dirty) frame free
+
+-- an entry's place in the order of cleaning: by first group, then by page; a free frame comes last
+abbrev pub rankOf : Dirty → ℕ
+rankOf entry = cond (eqb (entry .first) 0) (2 ^ 64 - 1) (entry .first * 65536 + entry .page)
+
+-- a named page is in its frame; an idle cleaning takes the frame that comes first
+abbrev pub TakesFrame : Cleaning → State → ℕ → Type 0
+TakesFrame Idle state frame = (other : ℕ) → other < length (state .dirty) → rankOf (entryAt state frame) ≤ rankOf (entryAt state other)
+TakesFrame (First page) state frame = page ≡ entryAt state frame .page
+TakesFrame (Second page) state frame = page ≡ entryAt state frame .page
+TakesFrame (Third page) state frame = page ≡ entryAt state frame .page
+
+-- the frame that holds a page
+pub record Named (state : State) (page frame : ℕ) : Type 0 where
+  pub below : frame < state .frames
+  pub used : entryAt state frame .first ≡ 0 → ⊥
+  pub pageIs : page ≡ entryAt state frame .page
+
+-- the frame of the page that is cleaned
+pub record Chosen (state : State) (frame : ℕ) : Type 0 where
+  pub below : frame < state .frames
+  pub used : entryAt state frame .first ≡ 0 → ⊥
+  pub takes : TakesFrame (state .cleaning) state frame
+
+-- the state once a page's clean block is stored and these pages are dirty
+abbrev pub cleanDone : State → List Dirty → State
+cleanDone state dirty = record {
+  pages = state .pages;
+  slots = state .slots;
+  frames = state .frames;
+  next = state .next + 1;
+  ticket = state .ticket;
+  dirty = dirty;
+  staged = state .staged;
+  groups = state .groups;
+  queued = state .queued;
+  stored = state .stored;
+  reserved = state .reserved;
+  described = state .described;
+  cleaning = Idle;
+}
+
+-- what a half's store leans on: the page at home and the frame lie within the areas
+pub record Fitting (state : State) (home frames frame : ℕ) : Type 0 where
+  pub frameFew : frame < 32
+  pub pageFew : entryAt state frame .page < 4096
+  pub pageWithin : entryAt state frame .page * pageSize + pageSize ≤ home
+  pub frameWithin : frame * pageSize + pageSize ≤ frames
+
+-- what the clean block of a frame's page leaves: the page is dropped, and keep-from goes over those that stay dirty
+pub record Cleaned (state : State) (log : List ℕ) (frame : ℕ) (result : State) (log′ : List ℕ) : Type 0 where
+  pub stateIs : result ≡ cleanDone state (result .dirty)
+  pub logIs : log′ ≡ stored (state .slots) log (state .next) (record {
+    kind = clean (entryAt state frame .page);
+    keepFrom = smallest (state .next) (firstGroups (result .dirty));
+    ticket = state .ticket;
+  })
+  pub holds : (frames : List ℕ) (entries : List DirtyPage) → Holds (tableOf state) frames entries
+      → Holds (tableWith state (result .dirty)) frames (without (entryAt state frame .page) entries)
+
+-- an accepted Clean step's outcome
+abbrev pub doneWith : State → Outcome
+doneWith state = record { state = state; answer = Done }

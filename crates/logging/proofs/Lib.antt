@@ -1,0 +1,5 @@
+pub mod Blocks
+pub mod Applied
+pub mod Committing
+pub mod Decision
+pub mod Stepped

@@ -1,0 +1,127 @@
+-- An accepted Log step keeps its whole promise: the update that it stores, or the commit.
+-- Assumes nothing.
+use mathlib.Core.Path.{_≡_, refl, sym, ap, _∙_, subst}
+use mathlib.Core.Bool.{true, cond}
+use mathlib.Core.List.{List, [], _∷_, map}
+use Prim.Native.Nat.{ℕ, _+_, _-_, _*_, _≤_, _<_, min}
+use native.Mathlib.Omega.{arith}
+use lib.Dec.{eqb}
+use lib.ListN.{length, getD, take, length-map, List·getD-map}
+use lib.Seq.{getD-take, length-take-le}
+use Rattle.area.specs.Part.{part}
+use Rattle.block.proofs.Tests.{by-cases}
+use Rattle.promises.specs.declared.State.{State}
+use Rattle.promises.specs.declared.Dirty.{Dirty}
+use Rattle.promises.specs.declared.LogOutcome.{LogOutcome}
+use Rattle.promises.specs.declared.Logged.the-variants.{Stored, Settled}
+use Rattle.promises.specs.Areas.{pageAt}
+use Rattle.promises.specs.Updates.{Update}
+use Rattle.promises.specs.Blocks.{LogBlock, update, commit, stored}
+use Rattle.promises.specs.DirtyPages.{DirtyPage, apply, applyAll, keepFromOf}
+use Rattle.promises.specs.Contents.{waiting, total, groupsOf, queueOf, contentsOf, dirtyOf}
+use Rattle.promises.specs.Sums.{firstGroups, groupStart, smallest}
+use Rattle.promises.specs.Sound.{sound}
+use Rattle.promises.specs.LogStep.{noUpdate, updateBlock, commitBlock, commitStored, dirtyAfter, logRefusalOf, UpdateStep, CommitStep, LogSteps}
+use Rattle.promises.proofs.Soundness.{Sound, sound-of, of-sound}
+use Rattle.promises.proofs.SoundFacts.{length-dirty, keepFrom-dirty}
+use Rattle.promises.proofs.Changes.{updateDone, update-met}
+use Rattle.promises.proofs.Promised.{log-updates, log-commits}
+use Rattle.table.specs.Table.{Holds}
+use Rattle.table.proofs.Holding.{sound-holds}
+use Rattle.stepping.specs.Tables.{tableWith}
+use Rattle.queue.specs.Queue.{commitDone}
+use Rattle.queue.proofs.Leaving.{queue-left, contents-left}
+use Rattle.logging.specs.Logging.{noStaged, sizeOf, stagedAt, oldestGroup, updateAt, commitAt, Commits}
+use Rattle.logging.proofs.Committing.{sound-commit}
+use Rattle.logging.proofs.Decision.{accepted, Accepted, size-and-rest}
+
+-- ---- keep-from is the same before a commit and after it: each page that it makes dirty starts at the group's own start
+
+keep-one : (start : ℕ) (home : ℕ → List ℕ) (u : Update) (es : List DirtyPage) → keepFromOf start (apply start home u es) ≡ keepFromOf start es
+unfolding apply keepFromOf
+keep-one start home u [] = omega arith
+keep-one start home u (e ∷ es) =
+    by-cases (eqb (u .page) (e .page)) (λ t. rw t refl) (λ t. rw t (ap (min (e .first)) (keep-one start home u es)))
+
+pub keep-all : (start : ℕ) (home : ℕ → List ℕ) (us : List Update) (es : List DirtyPage) → keepFromOf start (applyAll start home us es) ≡ keepFromOf start es
+unfolding applyAll
+keep-all start home [] es = refl
+keep-all start home (u ∷ us) es = keep-all start home us (apply start home u es) ∙ keep-one start home u es
+
+no-update : (staging : List ℕ) → waiting staging noStaged ≡ noUpdate
+unfolding part
+no-update staging = refl
+
+module _ (s : State) (log home frames staging : List ℕ) (accepts : logRefusalOf s log home frames staging ≡ 0) (keep : ℕ)
+    (keep-is : keep ≡ smallest (groupStart s) (firstGroups (s .dirty))) where
+  tests-passed : Accepted s (length log) (length home) (length frames) (length staging)
+  tests-passed = accepted s (length log) (length home) (length frames) (length staging) accepts
+
+  facts : Sound s
+  facts = sound-of s (tests-passed .isSound)
+
+  some : 1 ≤ s .queued
+  some = let n : s .queued ≡ 0 → ⊥ = tests-passed .some in omega (arith, n)
+
+  abbrev group : List Update
+  group = oldestGroup s staging
+
+  abbrev others : List (List Update)
+  others = queueOf (commitDone s (s .dirty) (sizeOf s)) staging
+
+  queue-is : queueOf s staging ≡ group ∷ others
+  queue-is = queue-left s (s .dirty) facts some staging
+
+  size-few : sizeOf s + s .described ≤ length (s .staged)
+  size-few = omega (arith, facts .staged, ap total (size-and-rest s facts some))
+
+  group-long : length group ≡ sizeOf s
+  group-long = length-take-le (sizeOf s) (map (waiting staging) (s .staged)) (omega (arith, size-few, length-map (s .staged) (waiting staging)))
+
+  keep-of : keep ≡ keepFromOf (groupStart s) (dirtyOf s frames)
+  keep-of = keep-is ∙ sym (keepFrom-dirty (groupStart s) frames 0 (s .dirty))
+
+  -- ---- the update
+  next-update : s .stored < sizeOf s → waiting staging (stagedAt s (s .stored)) ≡ getD group (s .stored) noUpdate
+  next-update h =
+      sym (List·getD-map (waiting staging) (s .staged) (s .stored) noStaged)
+      ∙ ap (getD (map (waiting staging) (s .staged)) (s .stored)) (no-update staging)
+      ∙ sym (getD-take (sizeOf s) (map (waiting staging) (s .staged)) (s .stored) noUpdate h)
+
+  update-is : s .stored < sizeOf s → updateAt s staging keep ≡ updateBlock s group (dirtyOf s frames)
+  update-is h =
+      ap (λ (u : Update). record { kind = update (s .stored + 1) u; keepFrom = keep; ticket = s .ticket }) (next-update h)
+      ∙ ap (λ (k : ℕ). record { kind = update (s .stored + 1) (getD group (s .stored) noUpdate); keepFrom = k; ticket = s .ticket }) keep-of
+
+  pub update-steps : (r : State) (log′ : List ℕ) → s .stored < sizeOf s → r ≡ updateDone s → log′ ≡ stored (s .slots) log (s .next) (updateAt s staging keep)
+      → LogSteps s log home frames staging (record { state = r; answer = Stored }) log′ frames
+  update-steps r log′ h e l =
+      log-updates s log home frames staging (record { state = r; answer = Stored }) log′ frames accepts refl group others queue-is (omega (arith, group-long))
+      (subst (λ (x : State). UpdateStep s group log frames staging (record { state = x; answer = Stored }) log′ frames) (sym e)
+      (subst (λ (x : List ℕ). UpdateStep s group log frames staging (record { state = updateDone s; answer = Stored }) x frames)
+      (sym (l ∙ ap (stored (s .slots) log (s .next)) (update-is h)))
+      (update-met s group others log frames staging (tests-passed .isSound) queue-is (omega (arith, group-long)))))
+
+  -- ---- the commit
+  commit-is : commitAt s keep ≡ commitBlock s group (dirtyAfter s group home frames)
+  commit-is =
+      ap (λ (n : ℕ). record { kind = commit n; keepFrom = keep; ticket = s .ticket + 1 }) (sym group-long)
+      ∙ ap (λ (k : ℕ). record { kind = commit (length group); keepFrom = k; ticket = s .ticket + 1 })
+      (keep-of ∙ sym (keep-all (groupStart s) (pageAt home) group (dirtyOf s frames)))
+
+  pub commit-steps : (r : State) (log′ frames′ : List ℕ) → sizeOf s ≤ s .stored → Commits s log home frames staging keep r log′ frames′
+      → LogSteps s log home frames staging (record { state = r; answer = Settled (s .ticket + 1) }) log′ frames′
+  commit-steps r log′ frames′ h m =
+      let room : length (dirtyOf s frames) + sizeOf s ≤ s .frames =
+      omega (arith, facts .frameSum, length-dirty frames 0 (s .dirty), ap total (size-and-rest s facts some)) in
+      let held = m .holds (sound-holds s frames (tests-passed .isSound)) room in
+      let safe : Sound (commitDone s (r .dirty) (sizeOf s)) = sound-commit s facts some h (pageAt home) frames frames′ staging (r .dirty) held in
+      log-commits s log home frames staging (record { state = r; answer = Settled (s .ticket + 1) }) log′ frames′ accepts refl group others queue-is (omega (arith, group-long))
+      (record {
+        answerIs = refl;
+        logIs = m .logIs ∙ ap (stored (s .slots) log (s .next)) commit-is;
+        framesLong = m .framesLong;
+        staysSound = of-sound r (subst Sound (sym (m .stateIs)) safe);
+        contentsAre = ap (λ (x : State). contentsOf x staging) (m .stateIs) ∙ contents-left s (r .dirty) staging group others facts some queue-is;
+        dirtyAre = held .looks;
+      })

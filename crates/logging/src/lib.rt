@@ -1,0 +1,194 @@
+// Log step: one block of the oldest queued group is stored; at the commit its updates go to the frames and the group leaves the queue.
+use block::Block;
+use promises::Answer;
+use promises::LogOutcome;
+use promises::Logged;
+use promises::Refusal;
+use promises::State;
+use table::Table;
+ghost use mathlib.Core.Path.{_≡_};
+ghost use Prim.Native.Nat.{_+_, _-_, _≤_, _<_};
+ghost use lib.ListN.{length};
+ghost use Rattle.promises.specs.Answers.{refusalIn};
+ghost use Rattle.promises.specs.Blocks.{stored};
+ghost use Rattle.promises.specs.Contents.{waiting};
+ghost use Rattle.promises.specs.Sums.{groupStart};
+ghost use Rattle.promises.specs.LogStep.{logRefusal, logRefusalOf, LogSteps};
+ghost use Rattle.table.specs.Table.{Applies, AppliesAll};
+ghost use Rattle.promises.proofs.Changes.{updateDone};
+ghost use Rattle.logging.specs.Logging.{sizeOf, stagedAt, oldestGroup, Ready, updateAt, Commits};
+ghost use Rattle.promises.specs.Areas.{logLength, homeLength, framesLength};
+
+// A byte as a count.
+fn wide(byte: u8) -> usize
+    ensures { λ r. ⌜ r ≡ byte ⌝ }
+{
+    byte as usize
+}
+
+// A staged place as a count.
+fn wide_place(place: u16) -> usize
+    ensures { λ r. ⌜ r ≡ place ⌝ }
+{
+    place as usize
+}
+
+// Whether Log step is refused, and why: from the state and the lengths of the lent areas.
+pub fn log_refusal(state: State, log: usize, home: usize, frames: usize, staging: usize) -> Answer
+    ensures { λ r. ⌜ refusalIn r ≡ logRefusal state log home frames staging ⌝ }
+{
+    if !soundness::sound(state) {
+        return Answer::Refused(Refusal::NotSound);
+    }
+    let fit = stepping::areas_fit(state, log, home, frames);
+    if !(fit & (staging == state.frames * Block::NEW_BYTES)) {
+        return Answer::Refused(Refusal::WrongLength);
+    }
+    if state.queued == 0 {
+        return Answer::Refused(Refusal::NothingToDo);
+    }
+    Answer::Done
+}
+
+// How many updates the oldest queued group has.
+pub fn group_size(state: State) -> usize
+    ensures { λ r. ⌜ r ≡ sizeOf state ⌝ }
+{
+    wide(state.groups[0])
+}
+
+// Stores the next update of the oldest group.
+pub fn store_update(state: State, log: &mut [u8], staging: &[u8], keep_from: u64) -> State
+    requires { ⌜ (state .stored < sizeOf state) × Ready state (length (now log)) (homeLength (state .pages)) (framesLength (state .frames)) (length (now staging)) ⌝ }
+    ensures { λ r. ⌜ (r ≡ updateDone state) × (now (log .exit) ≡ stored (state .slots) (now (log .entry)) (state .next) (updateAt state (now (staging .entry)) «keep_from»)) ⌝ }
+{
+    let index = state.stored;
+    let staged = state.staged[index];
+    let at = wide(staged.area) * Block::NEW_BYTES;
+    let length = wide_place(staged.length);
+    let block = Block::update(
+        state.next,
+        keep_from,
+        index + 1,
+        wide_place(staged.page),
+        wide_place(staged.offset),
+        length,
+        state.ticket,
+    );
+    stepping::store(log, state.slots, block, &staging[at..at + length]);
+    let mut after = state;
+    after.next = state.next + 1;
+    after.stored = index + 1;
+    after
+}
+
+// Staged update i takes effect in its page's frame.
+pub fn apply_staged(
+    table: Table,
+    state: State,
+    home: &[u8],
+    frames: &mut [u8],
+    staging: &[u8],
+    i: usize,
+) -> Table
+    requires { ⌜ (i < sizeOf state) × (table .count ≡ state .frames) × Ready state (logLength (state .slots)) (length (now home)) (length (now frames)) (length (now staging)) ⌝ }
+    ensures { λ r. ⌜ Applies table (now (home .entry)) (now (frames .entry)) (waiting (now (staging .entry)) (stagedAt state i)) (groupStart state) r (now (frames .exit)) ⌝ }
+{
+    let staged = state.staged[i];
+    let at = wide(staged.area) * Block::NEW_BYTES;
+    let length = wide_place(staged.length);
+    table::apply(
+        table,
+        home,
+        frames,
+        wide_place(staged.page),
+        wide_place(staged.offset),
+        &staging[at..at + length],
+        state.next - state.stored as u64,
+    )
+}
+
+// The oldest group takes effect, update by update.
+pub fn apply_group(
+    table: Table,
+    state: State,
+    home: &[u8],
+    frames: &mut [u8],
+    staging: &[u8],
+) -> Table
+    requires { ⌜ (table .count ≡ state .frames) × Ready state (logLength (state .slots)) (length (now home)) (length (now frames)) (length (now staging)) ⌝ }
+    ensures { λ r. ⌜ AppliesAll table (now (home .entry)) (now (frames .entry)) (oldestGroup state (now (staging .entry))) (groupStart state) r (now (frames .exit)) ⌝ }
+{
+    let size = group_size(state);
+    let mut applied = table;
+    let mut left = size;
+    while 0 < left {
+        applied = apply_staged(applied, state, home, frames, staging, size - left);
+        left -= 1;
+    }
+    applied
+}
+
+// Stores the commit of the oldest group, which then takes effect and leaves the queue.
+pub fn store_commit(
+    state: State,
+    log: &mut [u8],
+    home: &[u8],
+    frames: &mut [u8],
+    staging: &[u8],
+    keep_from: u64,
+) -> State
+    requires { ⌜ Ready state (length (now log)) (length (now home)) (length (now frames)) (length (now staging)) ⌝ }
+    ensures { λ r. ⌜ Commits state (now (log .entry)) (now (home .entry)) (now (frames .entry)) (now (staging .entry)) «keep_from» r (now (log .exit)) (now (frames .exit)) ⌝ }
+{
+    let size = group_size(state);
+    let block = Block::commit(state.next, keep_from, size, state.ticket + 1);
+    stepping::store(log, state.slots, block, &staging[..0]);
+    let table = apply_group(stepping::table_of(state), state, home, frames, staging);
+    let dirty = table.dirty;
+    queue::committed(state, dirty, size)
+}
+
+// The one store of an accepted Log step: the next update of the oldest group, or else its commit.
+fn log_store(
+    state: State,
+    log: &mut [u8],
+    home: &[u8],
+    frames: &mut [u8],
+    staging: &[u8],
+) -> LogOutcome
+    requires { ⌜ logRefusalOf state (now log) (now home) (now frames) (now staging) ≡ 0 ⌝ }
+    ensures { λ r. ⌜ LogSteps state (now (log .entry)) (now (home .entry)) (now (frames .entry)) (now (staging .entry)) r (now (log .exit)) (now (frames .exit)) ⌝ }
+{
+    let keep_from = soundness::sums::oldest(state, state.next - state.stored as u64);
+    if state.stored < group_size(state) {
+        return LogOutcome {
+            state: store_update(state, log, staging, keep_from),
+            answer: Logged::Stored,
+        };
+    }
+    LogOutcome {
+        state: store_commit(state, log, home, frames, staging, keep_from),
+        answer: Logged::Settled(state.ticket + 1),
+    }
+}
+
+// Log step.
+pub fn log_step(
+    state: State,
+    log: &mut [u8],
+    home: &[u8],
+    frames: &mut [u8],
+    staging: &[u8],
+) -> LogOutcome
+    ensures { λ r. ⌜ LogSteps state (now (log .entry)) (now (home .entry)) (now (frames .entry)) (now (staging .entry)) r (now (log .exit)) (now (frames .exit)) ⌝ }
+{
+    let decision = log_refusal(state, log.len(), home.len(), frames.len(), staging.len());
+    match decision {
+        Answer::Refused(refusal) => LogOutcome {
+            state,
+            answer: Logged::Refused(refusal),
+        },
+        Answer::Done => log_store(state, log, home, frames, staging),
+    }
+}

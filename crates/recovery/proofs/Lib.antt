@@ -1,0 +1,5 @@
+pub mod Scanning
+pub mod Groups
+pub mod Changing
+pub mod Turning
+pub mod Leading

@@ -1,0 +1,445 @@
+-- One block walked over is the paper's turn: an update, a clean and a commit.
+-- Assumes nothing.
+use mathlib.Core.Path.{_≡_, refl, sym, ap, _∙_, subst}
+use mathlib.Core.Bool.{Bool, true, false, cond, not, _&&_, _||_}
+use mathlib.Core.List.{List, [], _∷_, _++_}
+use Prim.Native.Nat.{ℕ, zero, suc, _+_, _-_, _≤_, _<_}
+use native.Mathlib.Omega.{arith}
+use lib.Dec.{eqb, ltb, leb}
+use lib.ListN.{length}
+use borrow.Author.Tests.{eq-eqb, ne-eqb, eqb-true, eqb-false, leb-true, leb-false, ltb-true}
+use Rattle.block.specs.Legal.{legal, legalKind, legalNumbers}
+use Rattle.block.specs.declared.Block.{Block}
+use Rattle.block.specs.declared.Kind as format
+use Rattle.block.proofs.Tests.{by-cases, tests, and-iff, never-both}
+use Rattle.block.proofs.Facts.{facts, Facts}
+use Rattle.promises.specs.Areas.{pageAt, slotsIn, pagesIn}
+use Rattle.promises.specs.Updates.{Update}
+use Rattle.promises.specs.Blocks.{Kind, update, commit, clean, kindIn}
+use Rattle.promises.specs.DirtyPages.{DirtyPage, apply, applyAll, without}
+use Rattle.promises.specs.Walk.{Walk as PaperWalk, walkBlock, inOrder, framed}
+use Rattle.promises.proofs.Soundness.{and-both}
+use Rattle.table.specs.declared.Table.{Table}
+use Rattle.table.specs.Table.{Each, AppliesAll, Drops}
+use Rattle.table.proofs.Holding.{each-apply, each-without}
+use Rattle.recovery.specs.declared.Walk.{Walk}
+use Rattle.recovery.specs.Log.{bytesOf, headerOf, blockOf, changeIn, updateOf, updatesFrom, Placed, Legal}
+use Rattle.recovery.specs.Walking.{refusedAt, halfAt, closedWith, updateFits, commitFits, updated, Cleans, Commits, Ready, Early, Stands, Refused, Turns}
+use Rattle.recovery.proofs.Groups.{update-is, group-more, group-length}
+use Rattle.recovery.proofs.Changing.{updated-wrong, updated-first, updated-next}
+
+-- ---- a legal block
+
+pub legal-numbers : (log home : List ℕ) (s : ℕ) → Legal log home s → (1 ≤ s) × (headerOf log s .ticket < s)
+legal-numbers log home s v =
+    let f : Facts (slotsIn (length log)) (pagesIn (length home)) (headerOf log s) = facts _ _ (headerOf log s) (v .rules) in
+    (omega (arith, f .one, v .sequenceIs), omega (arith, f .ticket, v .sequenceIs))
+
+-- a legal update has its place in a page of home
+pub legal-placed : (log home : List ℕ) (s index page offset count : ℕ) → Legal log home s
+    → headerOf log s .kind ≡ format.the-variants.Update index page offset count
+    → Placed (pagesIn (length home)) (headerOf log s .kind)
+unfolding legal
+legal-placed log home s index page offset count v e =
+    let b = headerOf log s in
+    let k : legalKind (pagesIn (length home)) (b .ticket) (b .kind) ≡ true =
+    and-both (legalNumbers (slotsIn (length log)) (b .sequence) (b .«keep_from») (b .ticket)) (legalKind (pagesIn (length home)) (b .ticket) (b .kind)) (v .rules) .1 in
+    subst (Placed (pagesIn (length home))) (sym e) (placed (subst (λ (x : format.Kind). legalKind (pagesIn (length home)) (b .ticket) x ≡ true) e k))
+  where
+    placed : legalKind (pagesIn (length home)) (headerOf log s .ticket) (format.the-variants.Update index page offset count) ≡ true
+        → Placed (pagesIn (length home)) (format.the-variants.Update index page offset count)
+    placed h = let g = simp tests at h in omega arith
+
+placed-page : (pages : ℕ) (kind : format.Kind) (bytes : List ℕ) → Placed pages kind → changeIn kind bytes .page < pages
+placed-page pages (format.the-variants.Update index page offset count) bytes p = p .0
+placed-page pages (format.the-variants.Commit updates) bytes p = absurd p
+placed-page pages (format.the-variants.Clean page) bytes p = absurd p
+
+-- ---- dirty pages and their first groups
+
+early-later : (pages s : ℕ) (es : List DirtyPage) → Each (Early pages s) es → Each (Early pages (suc s)) es
+early-later pages s [] x = tt
+early-later pages s (e ∷ es) x = ((x .0 .0, x .0 .1, omega (arith, x .0 .2)), early-later pages s es (x .1))
+
+each-group : (Q : ℕ → ℕ → Type 0) (log : List ℕ) (home : ℕ → List ℕ) (group s n : ℕ) (es : List DirtyPage)
+    → ((i : ℕ) → i < n → Q (updateOf log (s + i) .page) group) → Each Q es → Each Q (applyAll group home (updatesFrom log s n) es)
+unfolding updatesFrom applyAll
+each-group Q log home group s zero es f x = x
+each-group Q log home group s (suc n) es f x =
+    each-group Q log home group (suc s) n (apply group home (updateOf log s) es)
+    (λ i h. subst (λ (j : ℕ). Q (updateOf log j .page) group) (moved i) (f (suc i) (omega arith)))
+    (each-apply Q group home (updateOf log s) es (subst (λ (j : ℕ). Q (updateOf log j .page) group) here (f 0 (omega arith))) x)
+  where
+    here : s + 0 ≡ s
+    here = omega arith
+
+    moved : (i : ℕ) → s + suc i ≡ suc s + i
+    moved i = omega arith
+
+-- ---- what the code's tests say of the paper's walk
+
+module _ (log home : List ℕ) (s : ℕ) (walk : Walk) (frames : List ℕ) (paper : PaperWalk) (st : Stands log home s walk frames paper) where
+  group-count : length (paper .group) ≡ walk .count
+  group-count = ap length (sym (st .groupIs)) ∙ group-length log (walk .start) (walk .count)
+
+  pub update-test : (index ticket : ℕ) (change : Update) → inOrder (update index change) ticket paper ≡ updateFits walk index ticket
+  unfolding inOrder
+  update-test index ticket change =
+      ap (λ (n : ℕ). (eqb index 1 || (ltb 0 n && eqb index (n + 1))) && eqb ticket (paper .ticket)) group-count
+      ∙ ap (λ (n : ℕ). (eqb index 1 || (ltb 0 (walk .count) && eqb index (walk .count + 1))) && eqb ticket n) (sym (st .ticketIs))
+
+  pub commit-test : (updates ticket : ℕ) → inOrder (commit updates) ticket paper ≡ commitFits walk updates ticket
+  unfolding inOrder
+  commit-test updates ticket =
+      ap (λ (n : ℕ). ltb 0 n && eqb updates n && eqb ticket (paper .ticket + 1)) group-count
+      ∙ ap (λ (n : ℕ). ltb 0 (walk .count) && eqb updates (walk .count) && eqb ticket (n + 1)) (sym (st .ticketIs))
+
+  pub clean-test : (page ticket : ℕ) → inOrder (clean page) ticket paper ≡ eqb ticket (walk .ticket)
+  unfolding inOrder
+  clean-test page ticket = ap (λ (n : ℕ). eqb ticket n) (sym (st .ticketIs))
+
+-- a commit that closes its group
+pub commit-told : (walk : Walk) (updates ticket : ℕ) → commitFits walk updates ticket ≡ true → (0 < walk .count) × (ticket ≡ walk .ticket + 1)
+commit-told walk updates ticket f =
+    let a = and-both (ltb 0 (walk .count) && eqb updates (walk .count)) (eqb ticket (walk .ticket + 1)) f in
+    let b = and-both (ltb 0 (walk .count)) (eqb updates (walk .count)) (a .0) in
+    (ltb-true _ _ (b .0), eqb-true _ _ (a .1))
+
+refused-at : (walk : Walk) (r : Walk) (refusal place : ℕ) → r ≡ refusedAt walk refusal place → Refused r refusal place
+refused-at walk r refusal place e = record { refusalIs = ap (λ (w : Walk). w .refusal) e; placeIs = ap (λ (w : Walk). w .place) e }
+
+not-zero : {X : Type 0} (walk r : Walk) (refusal place : ℕ) → 0 < refusal → r ≡ refusedAt walk refusal place → r .refusal ≡ 0 → X
+not-zero walk r refusal place h e f = absurd (omega (arith, ap (λ (w : Walk). w .refusal) e, f))
+
+-- nothing happens once refused
+pub turns-not : (log home : List ℕ) (s : ℕ) (kind : Kind) (ticket : ℕ) (walk : Walk) (frames : List ℕ) → (walk .refusal ≡ 0 → ⊥)
+    → Turns log home s kind ticket walk frames walk frames
+turns-not log home s kind ticket walk frames n = record {
+  countIs = refl;
+  stays = λ m. refl;
+  ready = λ e. absurd (n e);
+  outOfOrder = λ paper st e. absurd (n (st .going));
+  tooFew = λ paper st e f. absurd (n (st .going));
+  goesOn = λ paper st e f. absurd (n (st .going));
+}
+
+-- the block's kind and ticket, as its header tells them
+pub turns-as : (log home : List ℕ) (s : ℕ) (kind kind′ : Kind) (ticket ticket′ : ℕ) (walk : Walk) (frames : List ℕ) (r : Walk) (frames′ : List ℕ) → kind ≡ kind′ → ticket ≡ ticket′
+    → Turns log home s kind ticket walk frames r frames′ → Turns log home s kind′ ticket′ walk frames r frames′
+turns-as log home s kind kind′ ticket ticket′ walk frames r frames′ e f x =
+    subst (λ (k : Kind). Turns log home s k ticket′ walk frames r frames′) e (subst (λ (t : ℕ). Turns log home s kind t walk frames r frames′) f x)
+
+module _ (log home : List ℕ) (s : ℕ) (walk : Walk) (frames : List ℕ) (v : Legal log home s) (z : walk .refusal ≡ 0) (y : Ready log home s walk) where
+  -- ---- an update
+
+  module _ (index page offset count : ℕ) (k : headerOf log s .kind ≡ format.the-variants.Update index page offset count) (r : Walk)
+      (e : r ≡ updated walk s index (headerOf log s .ticket)) where
+    ticket : ℕ
+    ticket = headerOf log s .ticket
+
+    change : Update
+    change = changeIn (format.the-variants.Update index page offset count) (bytesOf log s)
+
+    change-is : change ≡ updateOf log s
+    unfolding change
+    change-is = update-is log s _ k
+
+    here : Placed (pagesIn (length home)) (headerOf log s .kind)
+    here = legal-placed log home s index page offset count v k
+
+    ready-first : Ready log home (suc s) (halfAt walk s 1)
+    ready-first = record {
+      half = λ h. omega arith;
+      begins = λ h. legal-numbers log home s v .0;
+      few = omega (arith, legal-numbers log home s v .0);
+      ticketBelow = omega (arith, y .ticketBelow);
+      placed = λ i h. subst (λ (j : ℕ). Placed (pagesIn (length home)) (headerOf log j .kind)) (at-zero i h) here;
+    }
+      where
+        at-zero : (i : ℕ) → i < 1 → s ≡ s + i
+        at-zero i h = omega arith
+
+    next-index : updateFits walk index ticket ≡ true → eqb index 1 ≡ false → (0 < walk .count) × (index ≡ walk .count + 1)
+    next-index f g =
+        let a = and-both (eqb index 1 || (ltb 0 (walk .count) && eqb index (walk .count + 1))) (eqb ticket (walk .ticket)) f .0 in
+        let b : (ltb 0 (walk .count) && eqb index (walk .count + 1)) ≡ true = ap (λ (t : Bool). t || (ltb 0 (walk .count) && eqb index (walk .count + 1))) (sym g) ∙ a in
+        let c = and-both (ltb 0 (walk .count)) (eqb index (walk .count + 1)) b in
+        (ltb-true _ _ (c .0), eqb-true _ _ (c .1))
+
+    ready-next : updateFits walk index ticket ≡ true → eqb index 1 ≡ false → Ready log home (suc s) (halfAt walk (walk .start) index)
+    ready-next f g =
+        let n = next-index f g in
+        let end : walk .start + walk .count ≡ s = y .half (n .0) in
+        record {
+          half = λ h. omega (arith, n .1);
+          begins = λ h. y .begins (n .0);
+          few = omega (arith, n .1, y .few);
+          ticketBelow = omega (arith, y .ticketBelow);
+          placed = λ i h.
+              elim (native.Mathlib.Decide.ℕ-discrete i (walk .count)) [
+                | yes q ↦ subst (λ (j : ℕ). Placed (pagesIn (length home)) (headerOf log j .kind)) (last i q end) here
+                | no q ↦ y .placed i (omega (arith, n .1))
+              ];
+        }
+      where
+        last : (i : ℕ) → i ≡ walk .count → walk .start + walk .count ≡ s → s ≡ walk .start + i
+        last i q w = omega arith
+
+    -- by the two tests
+    data Turn : Type 0 where
+      wrong : updateFits walk index ticket ≡ false → r ≡ refusedAt walk 8 s → Turn
+      first : updateFits walk index ticket ≡ true → eqb index 1 ≡ true → r ≡ halfAt walk s 1 → Turn
+      next : updateFits walk index ticket ≡ true → eqb index 1 ≡ false → r ≡ halfAt walk (walk .start) index → Turn
+
+    taken : Turn
+    unfolding ticket
+    taken =
+        by-cases (updateFits walk index ticket)
+        (λ f. by-cases (eqb index 1)
+        (λ g. first f g (e ∙ sym (updated-first walk s index ticket f g)))
+        (λ g. next f g (e ∙ sym (updated-next walk s index ticket f g))))
+        (λ f. wrong f (e ∙ sym (updated-wrong walk s index ticket f)))
+
+    same-count : Turn → r .table .count ≡ walk .table .count
+    same-count (wrong f q) = ap (λ (w : Walk). w .table .count) q
+    same-count (first f g q) = ap (λ (w : Walk). w .table .count) q
+    same-count (next f g q) = ap (λ (w : Walk). w .table .count) q
+
+    ready-then : Turn → r .refusal ≡ 0 → Ready log home (suc s) r
+    ready-then (wrong f q) h = not-zero walk r 8 s (omega arith) q h
+    ready-then (first f g q) h = subst (Ready log home (suc s)) (sym q) ready-first
+    ready-then (next f g q) h = subst (Ready log home (suc s)) (sym q) (ready-next f g)
+
+    module _ (paper : PaperWalk) (st : Stands log home s walk frames paper) where
+      refuses : Turn → inOrder (update index change) ticket paper ≡ false → Refused r 8 s
+      refuses (wrong f q) h = refused-at walk r 8 s q
+      refuses (first f g q) h = absurd (never-both _ (update-test log home s walk frames paper st index ticket change ∙ f) h)
+      refuses (next f g q) h = absurd (never-both _ (update-test log home s walk frames paper st index ticket change ∙ f) h)
+
+      goes : Turn → inOrder (update index change) ticket paper ≡ true → Stands log home (suc s) r frames (walkBlock (pageAt home) s (update index change) paper)
+      unfolding walkBlock
+      goes (wrong f q) h = absurd (never-both _ h (update-test log home s walk frames paper st index ticket change ∙ f))
+      goes (first f g q) h = rw g (subst (λ (w : Walk). Stands log home (suc s) w frames one) (sym q) record {
+        going = st .going;
+        notFull = st .notFull;
+        ticketIs = st .ticketIs;
+        startIs = refl;
+        groupIs = single ∙ ap (λ (u : Update). u ∷ []) (sym change-is);
+        holds = st .holds;
+        early = early-later _ s (paper .dirtyPages) (st .early);
+      })
+        where
+          one : PaperWalk
+          one = record { group = change ∷ []; start = s; ticket = paper .ticket; dirtyPages = paper .dirtyPages }
+
+          single : updatesFrom log s 1 ≡ updateOf log s ∷ []
+          single = unfold updatesFrom in refl
+      goes (next f g q) h = rw g (subst (λ (w : Walk). Stands log home (suc s) w frames more) (sym q) record {
+        going = st .going;
+        notFull = st .notFull;
+        ticketIs = st .ticketIs;
+        startIs = st .startIs;
+        groupIs = ap (updatesFrom log (walk .start)) (next-index f g .1) ∙ group-more log (walk .start) (walk .count)
+            ∙ ap (λ (us : List Update). us ++ (updateOf log (walk .start + walk .count) ∷ [])) (st .groupIs)
+            ∙ ap (λ (u : Update). paper .group ++ (u ∷ [])) (ap (updateOf log) (y .half (next-index f g .0)) ∙ sym change-is);
+        holds = st .holds;
+        early = early-later _ s (paper .dirtyPages) (st .early);
+      })
+        where
+          more : PaperWalk
+          more = record { group = paper .group ++ (change ∷ []); start = paper .start; ticket = paper .ticket; dirtyPages = paper .dirtyPages }
+
+    framed-always : (paper : PaperWalk) → framed (walk .table .count) (pageAt home) (update index change) paper ≡ true
+    unfolding framed
+    framed-always paper = refl
+
+    update-turns : Turns log home s (update index change) ticket walk frames r frames
+    update-turns = record {
+      countIs = same-count taken;
+      stays = λ n. absurd (n z);
+      ready = ready-then taken;
+      outOfOrder = λ paper st h. refuses paper st taken h;
+      tooFew = λ paper st h g. absurd (never-both _ (framed-always paper) g);
+      goesOn = λ paper st h g. goes paper st taken h;
+    }
+
+    pub turns-update : Turns log home s (blockOf log s .kind) (blockOf log s .ticket) walk frames r frames
+    unfolding ticket change
+    turns-update = turns-as log home s _ _ ticket _ walk frames r frames (sym (ap (λ (x : format.Kind). kindIn x (bytesOf log s)) k)) refl update-turns
+
+  -- ---- a clean
+
+  module _ (page : ℕ) (k : headerOf log s .kind ≡ format.the-variants.Clean page) (r : Walk)
+      (e : Cleans walk s page (headerOf log s .ticket) r) where
+    -- by its test
+    data Cleaned : Type 0 where
+      bad : eqb (headerOf log s .ticket) (walk .ticket) ≡ false → r ≡ refusedAt walk 8 s → Cleaned
+      good : eqb (headerOf log s .ticket) (walk .ticket) ≡ true → (t : Table) → Drops (walk .table) page t → r ≡ closedWith walk (walk .ticket) t → Cleaned
+
+    cleaned : Cleaned
+    cleaned =
+        by-cases (eqb (headerOf log s .ticket) (walk .ticket))
+        (λ f. let g = e .right f in good f (g .0) (g .1) (g .2))
+        (λ f. bad f (e .wrong f))
+
+    count-cleaned : Cleaned → r .table .count ≡ walk .table .count
+    count-cleaned (bad f q) = ap (λ (w : Walk). w .table .count) q
+    count-cleaned (good f t d q) = ap (λ (w : Walk). w .table .count) q ∙ d .countIs
+
+    ready-cleaned : Cleaned → r .refusal ≡ 0 → Ready log home (suc s) r
+    ready-cleaned (bad f q) h = not-zero walk r 8 s (omega arith) q h
+    ready-cleaned (good f t d q) h = subst (Ready log home (suc s)) (sym q) record {
+      half = λ x. absurd (omega arith);
+      begins = λ x. absurd (omega arith);
+      few = omega arith;
+      ticketBelow = omega (arith, y .ticketBelow);
+      placed = λ i x. absurd (omega arith);
+    }
+
+    module _ (paper : PaperWalk) (st : Stands log home s walk frames paper) where
+      refuses-clean : Cleaned → inOrder (clean page) (headerOf log s .ticket) paper ≡ false → Refused r 8 s
+      refuses-clean (bad f q) h = refused-at walk r 8 s q
+      refuses-clean (good f t d q) h = absurd (never-both _ (clean-test log home s walk frames paper st page (headerOf log s .ticket) ∙ f) h)
+
+      goes-clean : Cleaned → inOrder (clean page) (headerOf log s .ticket) paper ≡ true → Stands log home (suc s) r frames (walkBlock (pageAt home) s (clean page) paper)
+      unfolding walkBlock updatesFrom
+      goes-clean (bad f q) h = absurd (never-both _ h (clean-test log home s walk frames paper st page (headerOf log s .ticket) ∙ f))
+      goes-clean (good f t d q) h = subst (λ (w : Walk). Stands log home (suc s) w frames left) (sym q) record {
+        going = st .going;
+        notFull = d .fullIs ∙ st .notFull;
+        ticketIs = st .ticketIs;
+        startIs = refl;
+        groupIs = refl;
+        holds = d .holds frames (paper .dirtyPages) (st .holds);
+        early = each-without (Early (pagesIn (length home)) (suc s)) page (paper .dirtyPages) (early-later _ s (paper .dirtyPages) (st .early));
+      }
+        where
+          left : PaperWalk
+          left = record { group = []; start = 0; ticket = paper .ticket; dirtyPages = without page (paper .dirtyPages) }
+
+    framed-clean : (paper : PaperWalk) → framed (walk .table .count) (pageAt home) (clean page) paper ≡ true
+    unfolding framed
+    framed-clean paper = refl
+
+    clean-turns : Turns log home s (clean page) (headerOf log s .ticket) walk frames r frames
+    clean-turns = record {
+      countIs = count-cleaned cleaned;
+      stays = λ n. absurd (n z);
+      ready = ready-cleaned cleaned;
+      outOfOrder = λ paper st h. refuses-clean paper st cleaned h;
+      tooFew = λ paper st h g. absurd (never-both _ (framed-clean paper) g);
+      goesOn = λ paper st h g. goes-clean paper st cleaned h;
+    }
+
+    pub turns-clean : Turns log home s (blockOf log s .kind) (blockOf log s .ticket) walk frames r frames
+    turns-clean = turns-as log home s _ _ (headerOf log s .ticket) _ walk frames r frames (sym (ap (λ (x : format.Kind). kindIn x (bytesOf log s)) k)) refl clean-turns
+
+  -- ---- a commit
+
+  module _ (updates : ℕ) (k : headerOf log s .kind ≡ format.the-variants.Commit updates) (r : Walk) (frames′ : List ℕ)
+      (e : Commits log home walk frames s updates (headerOf log s .ticket) r frames′) where
+    ours : ℕ
+    ours = headerOf log s .ticket
+
+    -- by its test, and by whether a page found no frame
+    data Committed : Type 0 where
+      bad : commitFits walk updates (headerOf log s .ticket) ≡ false → r ≡ refusedAt walk 8 s → Committed
+      full : commitFits walk updates (headerOf log s .ticket) ≡ true → (t : Table)
+          → AppliesAll (walk .table) home frames (updatesFrom log (walk .start) (walk .count)) (walk .start) t frames′
+          → t .full ≡ true → r ≡ refusedAt (closedWith walk (headerOf log s .ticket) t) 9 s → Committed
+      good : commitFits walk updates (headerOf log s .ticket) ≡ true → (t : Table)
+          → AppliesAll (walk .table) home frames (updatesFrom log (walk .start) (walk .count)) (walk .start) t frames′
+          → t .full ≡ false → r ≡ closedWith walk (headerOf log s .ticket) t → Committed
+
+    committed : Committed
+    committed =
+        by-cases (commitFits walk updates (headerOf log s .ticket))
+        (λ f. let g = e .right f in by-cases (g .0 .full)
+        (λ h. full f (g .0) (g .1) h (g .2 ∙ ap (λ (b : Bool). cond b (refusedAt (closedWith walk (headerOf log s .ticket) (g .0)) 9 s) (closedWith walk (headerOf log s .ticket) (g .0))) h))
+        (λ h. good f (g .0) (g .1) h (g .2 ∙ ap (λ (b : Bool). cond b (refusedAt (closedWith walk (headerOf log s .ticket) (g .0)) 9 s) (closedWith walk (headerOf log s .ticket) (g .0))) h)))
+        (λ f. bad f (e .wrong f))
+
+    count-committed : Committed → r .table .count ≡ walk .table .count
+    count-committed (bad f q) = ap (λ (w : Walk). w .table .count) q
+    count-committed (full f t a h q) = ap (λ (w : Walk). w .table .count) q ∙ a .countIs
+    count-committed (good f t a h q) = ap (λ (w : Walk). w .table .count) q ∙ a .countIs
+
+    ready-committed : Committed → r .refusal ≡ 0 → Ready log home (suc s) r
+    ready-committed (bad f q) h = not-zero walk r 8 s (omega arith) q h
+    ready-committed (full f t a g q) h = not-zero (closedWith walk (headerOf log s .ticket) t) r 9 s (omega arith) q h
+    ready-committed (good f t a g q) h = subst (Ready log home (suc s)) (sym q) record {
+      half = λ x. absurd (omega arith);
+      begins = λ x. absurd (omega arith);
+      few = omega arith;
+      ticketBelow = omega (arith, legal-numbers log home s v .1);
+      placed = λ i x. absurd (omega arith);
+    }
+
+    module _ (paper : PaperWalk) (st : Stands log home s walk frames paper) where
+      -- the group, as the paper's walk has it
+      after : List DirtyPage
+      after = applyAll (walk .start) (pageAt home) (updatesFrom log (walk .start) (walk .count)) (paper .dirtyPages)
+
+      after-is : applyAll (paper .start) (pageAt home) (paper .group) (paper .dirtyPages) ≡ after
+      unfolding after
+      after-is =
+          ap (λ (n : ℕ). applyAll n (pageAt home) (paper .group) (paper .dirtyPages)) (sym (st .startIs))
+          ∙ ap (λ (us : List Update). applyAll (walk .start) (pageAt home) us (paper .dirtyPages)) (sym (st .groupIs))
+
+      room : framed (walk .table .count) (pageAt home) (commit updates) paper ≡ leb (length after) (walk .table .count)
+      unfolding framed
+      room = ap (λ (es : List DirtyPage). leb (length es) (walk .table .count)) after-is
+
+      refuses-commit : Committed → inOrder (commit updates) (headerOf log s .ticket) paper ≡ false → Refused r 8 s
+      refuses-commit (bad f q) h = refused-at walk r 8 s q
+      refuses-commit (full f t a g q) h = absurd (never-both _ (commit-test log home s walk frames paper st updates (headerOf log s .ticket) ∙ f) h)
+      refuses-commit (good f t a g q) h = absurd (never-both _ (commit-test log home s walk frames paper st updates (headerOf log s .ticket) ∙ f) h)
+
+      lacks-frames : Committed → inOrder (commit updates) (headerOf log s .ticket) paper ≡ true
+          → framed (walk .table .count) (pageAt home) (commit updates) paper ≡ false → Refused r 9 s
+      unfolding after
+      lacks-frames (bad f q) h n = absurd (never-both _ h (commit-test log home s walk frames paper st updates (headerOf log s .ticket) ∙ f))
+      lacks-frames (full f t a g q) h n = refused-at (closedWith walk (headerOf log s .ticket) t) r 9 s q
+      lacks-frames (good f t a g q) h n =
+          absurd (never-both _ (a .fills (paper .dirtyPages) (st .notFull) (st .holds) (leb-false _ _ (sym room ∙ n))) g)
+
+      goes-commit : Committed → inOrder (commit updates) (headerOf log s .ticket) paper ≡ true
+          → framed (walk .table .count) (pageAt home) (commit updates) paper ≡ true
+          → Stands log home (suc s) r frames′ (walkBlock (pageAt home) s (commit updates) paper)
+      unfolding walkBlock updatesFrom after
+      goes-commit (bad f q) h n = absurd (never-both _ h (commit-test log home s walk frames paper st updates (headerOf log s .ticket) ∙ f))
+      goes-commit (full f t a g q) h n =
+          absurd (never-both _ g (a .fits (paper .dirtyPages) (st .notFull) (st .holds) (leb-true _ _ (sym room ∙ n)) .0))
+      goes-commit (good f t a g q) h n =
+          let held = a .fits (paper .dirtyPages) (st .notFull) (st .holds) (leb-true _ _ (sym room ∙ n)) in
+          subst (λ (es : List DirtyPage). Stands log home (suc s) r frames′ (settled es)) (sym after-is)
+          (subst (λ (w : Walk). Stands log home (suc s) w frames′ (settled after)) (sym q) record {
+            going = st .going;
+            notFull = g;
+            ticketIs = commit-told walk updates (headerOf log s .ticket) f .1 ∙ ap (λ (n : ℕ). n + 1) (st .ticketIs);
+            startIs = refl;
+            groupIs = refl;
+            holds = held .1;
+            early = each-group (Early (pagesIn (length home)) (suc s)) log (pageAt home) (walk .start) (walk .start) (walk .count) (paper .dirtyPages)
+                (λ i x. (page-below i x, y .begins (commit-told walk updates (headerOf log s .ticket) f .0), omega (arith, y .half (commit-told walk updates (headerOf log s .ticket) f .0))))
+                (early-later _ s (paper .dirtyPages) (st .early));
+          })
+        where
+          settled : List DirtyPage → PaperWalk
+          settled es = record { group = []; start = 0; ticket = paper .ticket + 1; dirtyPages = es }
+
+          page-below : (i : ℕ) → i < walk .count → updateOf log (walk .start + i) .page < pagesIn (length home)
+          page-below i x = unfold updateOf in placed-page (pagesIn (length home)) (headerOf log (walk .start + i) .kind) (bytesOf log (walk .start + i)) (y .placed i x)
+
+    commit-turns : Turns log home s (commit updates) (headerOf log s .ticket) walk frames r frames′
+    commit-turns = record {
+      countIs = count-committed committed;
+      stays = λ n. absurd (n z);
+      ready = ready-committed committed;
+      outOfOrder = λ paper st h. refuses-commit paper st committed h;
+      tooFew = λ paper st h g. lacks-frames paper st committed h g;
+      goesOn = λ paper st h g. goes-commit paper st committed h g;
+    }
+
+    pub turns-commit : Turns log home s (blockOf log s .kind) (blockOf log s .ticket) walk frames r frames′
+    turns-commit = turns-as log home s _ _ (headerOf log s .ticket) _ walk frames r frames′ (sym (ap (λ (x : format.Kind). kindIn x (bytesOf log s)) k)) refl commit-turns

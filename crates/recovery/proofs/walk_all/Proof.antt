@@ -1,0 +1,94 @@
+use Prim.Native.Nat.{ℕ, suc, _≤_, _<_, _-_, _+_, _*_, _/_, _%_}
+use mathlib.Core.Path.{_≡_, refl, sym, ap, _∙_, subst}
+use mathlib.Core.Bool.{Bool, true, false, cond, _&&_}
+use mathlib.Core.List.{List}
+use lib.ListN.{length}
+use lib.Dec.{leb, ltb, eqb}
+use borrow.Author.Tests.{eq-eqb, ne-eqb}
+use Rattle.block.specs.declared.Block.{Block}
+use Rattle.recovery.specs.declared.Walk.{Walk}
+use Rattle.recovery.specs.Log.{headerOf}
+use Rattle.recovery.specs.Walking.{refusedAt, closedWith, updateFits, commitFits, updated, spanFits, tested, Ready, Stands, Turns, Leads, Walks}
+use Rattle.recovery.proofs.Changing.{fails, holds, updated-wrong, updated-first, updated-next, cleans-wrong, cleans-right, commits-wrong, commits-right, by-full, by-room, tested-not, tested-by}
+use Rattle.recovery.proofs.Turning.{commit-told, turns-not, turns-update, turns-clean, turns-commit}
+use Rattle.recovery.proofs.Leading.{Leading, leading-more, leading-end}
+use borrow.Author.Needs.{needs}
+use native.Mathlib.Omega.{arith}
+use Rattle.recovery.proofs.walk_all.Statement.{statement}
+use Rattle.recovery.proofs.walk_all.Tie as tie
+use Rattle.recovery.proofs.walk_all.Reads as reads
+use Rattle.recovery.proofs.walk_all.Lts as lts
+use Rattle.recovery.proofs.turn.Reads as turn-reads
+
+abbrev Inv-loop : tie.InvT-loop
+Inv-loop log home frames₀ first last w₀ s₀ frames w s =
+    (first ≤ s) × (s ≤ last + 1) × (length frames ≡ length frames₀) × (w .table .count ≡ w₀ .table .count)
+    × (w .refusal ≡ 0 → Ready log home s w) × Leading log home first last w₀ frames₀ s w frames
+
+abbrev μ-loop : tie.MeasureT-loop
+μ-loop log home frames₀ first last w₀ s₀ frames w s = last + 1 - s
+
+-- src/lib.rt:322:5
+loop-holds : tie.Need-loop-holds Inv-loop μ-loop
+loop-holds c = (omega arith, omega arith, refl, refl, (c .before .before .before) .pre .7, λ slots next found l. l)
+
+-- src/lib.rt:323:9
+turn-requires : tie.Need-turn-requires Inv-loop μ-loop
+turn-requires c κs =
+    let l = (c .before .before) .loop in
+    (omega arith, omega arith, omega arith, omega arith, omega arith, (c .before .before .before .before .before .before) .pre .6 (l .s) (omega arith) (omega arith), l .inv .4)
+
+-- src/lib.rt:324:9
+add-s : tie.Need-add-s Inv-loop μ-loop
+add-s c = search needs
+
+-- src/lib.rt:322:5
+loop-less : tie.Need-loop-less Inv-loop μ-loop
+loop-less c = search needs
+
+-- src/lib.rt:322:5
+loop-again : tie.Need-loop-again Inv-loop μ-loop
+loop-again c =
+    let a = (c .before .before .before .before .before .before .before .before .before) .args in
+    let l = (c .before .before .before .before .before) .loop in
+    let t = (c .before .before) .turn in (
+      omega arith,
+      omega arith,
+      t .kept .1 .1 .1 .0 ∙ l .inv .2,
+      t .ensures .countIs ∙ l .inv .3,
+      λ e. subst (λ (n : ℕ). Ready (a .log .now) (a .home .now) n (t .result)) (one (l .s)) (t .ensures .ready e),
+      leading-more (a .log .now) (a .home .now) (a .first) (a .last) (a .walk) (a .frames .now) (l .s) (l .w) _ (l .frames) _ (omega arith) (t .ensures) (l .inv .5),
+    )
+  where
+    one : (n : ℕ) → suc n ≡ n + 1
+    one n = omega arith
+
+-- src/lib.rt:309:1
+same-length : tie.Need-same-length Inv-loop μ-loop
+same-length c = search needs
+
+-- src/lib.rt:309:1
+returns : tie.Need-returns Inv-loop μ-loop
+returns c =
+    let a = (c .before .before .before .before .before) .args in
+    let l = (c .before) .loop in
+    let e : l .s ≡ a .last + 1 = omega arith in
+    record {
+      countIs = l .inv .3;
+      ready = λ z. subst (λ (n : ℕ). Ready (a .log .now) (a .home .now) n (l .w)) e (l .inv .4 z);
+      leads = leading-end (a .log .now) (a .home .now) (a .first) (a .last) (a .walk) (a .frames .now) (l .s) (l .w) (l .frames) e (l .inv .5);
+    }
+
+pub walk-all-spec : {M : Type 1} → statement M
+walk-all-spec =
+    tie.close
+    (tie.spec
+    Inv-loop
+    μ-loop
+    loop-holds
+    turn-requires
+    add-s
+    loop-less
+    loop-again
+    same-length
+    returns)

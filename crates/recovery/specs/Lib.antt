@@ -1,0 +1,3 @@
+pub mod Log
+pub mod Slots
+pub mod Walking

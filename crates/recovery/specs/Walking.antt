@@ -1,0 +1,119 @@
+-- The code's walk beside the paper's: what one block makes of it, what it stands for, and what comes of all.
+-- Assumes nothing.
+use Prim.Native.Nat.{ℕ, suc, _+_, _-_, _≤_, _<_}
+use mathlib.Core.Path.{_≡_}
+use mathlib.Core.Bool.{Bool, true, false, cond, _&&_, _||_}
+use mathlib.Core.List.{List}
+use lib.ListN.{length}
+use lib.Dec.{eqb, ltb, leb}
+use Rattle.promises.specs.Areas.{pageAt, pagesIn}
+use Rattle.promises.specs.Blocks.{Kind}
+use Rattle.promises.specs.Sums.{firstGroups, smallest}
+use Rattle.promises.specs.Walk.{Walk as PaperWalk, walkBlock, inOrder, framed, Finding, stops, walkFrom}
+use Rattle.table.specs.declared.Table.{Table}
+use Rattle.table.specs.Table.{Holds, Each, AppliesAll, Drops}
+use Rattle.recovery.specs.declared.Walk.{Walk}
+use Rattle.recovery.specs.Log.{headerOf, updatesFrom, blocksFrom, Placed}
+
+-- ---- the code's turns
+
+-- refused at a place
+abbrev pub refusedAt : Walk → ℕ → ℕ → Walk
+refusedAt walk refusal place =
+    record { refusal = refusal; place = place; ticket = walk .ticket; start = walk .start; count = walk .count; table = walk .table }
+
+-- with a half group of so many updates
+abbrev pub halfAt : Walk → ℕ → ℕ → Walk
+halfAt walk start count =
+    record { refusal = walk .refusal; place = walk .place; ticket = walk .ticket; start = start; count = count; table = walk .table }
+
+-- without a half group, with this ticket and these dirty pages
+abbrev pub closedWith : Walk → ℕ → Table → Walk
+closedWith walk ticket table = record { refusal = walk .refusal; place = walk .place; ticket = ticket; start = 0; count = 0; table = table }
+
+-- an update's index is 1 or the next of the half group, a commit closes its group, and the ticket is right
+abbrev pub updateFits : Walk → ℕ → ℕ → Bool
+updateFits walk index ticket = (eqb index 1 || (ltb 0 (walk .count) && eqb index (walk .count + 1))) && eqb ticket (walk .ticket)
+
+abbrev pub commitFits : Walk → ℕ → ℕ → Bool
+commitFits walk updates ticket = ltb 0 (walk .count) && eqb updates (walk .count) && eqb ticket (walk .ticket + 1)
+
+-- an update is walked over
+unfoldable pub updated : Walk → ℕ → ℕ → ℕ → Walk
+updated walk sequence index ticket =
+    cond (updateFits walk index ticket) (cond (eqb index 1) (halfAt walk sequence 1) (halfAt walk (walk .start) index)) (refusedAt walk 8 sequence)
+
+-- a clean is
+pub record Cleans (walk : Walk) (sequence page ticket : ℕ) (result : Walk) : Type 0 where
+  pub wrong : eqb ticket (walk .ticket) ≡ false → result ≡ refusedAt walk 8 sequence
+  pub right : eqb ticket (walk .ticket) ≡ true → (table : Table) × Drops (walk .table) page table × (result ≡ closedWith walk (walk .ticket) table)
+
+-- a commit is: its group takes effect; where a page found no frame, this is 9
+pub record Commits (log home : List ℕ) (walk : Walk) (frames : List ℕ) (sequence updates ticket : ℕ) (result : Walk) (frames′ : List ℕ) : Type 0 where
+  pub wrong : commitFits walk updates ticket ≡ false → result ≡ refusedAt walk 8 sequence
+  pub right : commitFits walk updates ticket ≡ true
+      → (table : Table) × AppliesAll (walk .table) home frames (updatesFrom log (walk .start) (walk .count)) (walk .start) table frames′
+      × (result ≡ cond (table .full) (refusedAt (closedWith walk ticket table) 9 sequence) (closedWith walk ticket table))
+
+-- what the last block's number and the table tell: H + D is at most N
+abbrev pub spanFits : Table → ℕ → ℕ → Bool
+spanFits table slots next = leb (next - smallest next (firstGroups (table .dirty)) + length (firstGroups (table .dirty))) slots
+
+-- the last test: H + D above N is 8 at M
+unfoldable pub tested : ℕ → ℕ → Walk → Walk
+tested slots last walk = cond (eqb (walk .refusal) 0) (cond (spanFits (walk .table) slots (last + 1)) walk (refusedAt walk 8 last)) walk
+
+-- ---- beside the paper's walk
+
+-- the walk may meet the block of this sequence: its half group ends before it, with updates that fit home, and its ticket is below it
+pub record Ready (log home : List ℕ) (sequence : ℕ) (walk : Walk) : Type 0 where
+  pub half : 0 < walk .count → walk .start + walk .count ≡ sequence
+  pub begins : 0 < walk .count → 1 ≤ walk .start
+  pub few : walk .count ≤ sequence
+  pub ticketBelow : walk .ticket < sequence
+  pub placed : (i : ℕ) → i < walk .count → Placed (pagesIn (length home)) (headerOf log (walk .start + i) .kind)
+
+-- a dirty page is below P, and its first group is from 1 to before this sequence
+abbrev pub Early : ℕ → ℕ → ℕ → ℕ → Type 0
+Early pages sequence page first = (page < pages) × (1 ≤ first) × (first < sequence)
+
+-- the walk, before the block of this sequence, and the frames' bytes stand for the paper's walk
+pub record Stands (log home : List ℕ) (sequence : ℕ) (walk : Walk) (frames : List ℕ) (paper : PaperWalk) : Type 0 where
+  pub going : walk .refusal ≡ 0
+  pub notFull : walk .table .full ≡ false
+  pub ticketIs : walk .ticket ≡ paper .ticket
+  pub startIs : walk .start ≡ paper .start
+  pub groupIs : updatesFrom log (walk .start) (walk .count) ≡ paper .group
+  pub holds : Holds (walk .table) frames (paper .dirtyPages)
+  pub early : Each (Early (pagesIn (length home)) sequence) (paper .dirtyPages)
+
+-- the walk ended with this refusal at this place
+pub record Refused (walk : Walk) (refusal place : ℕ) : Type 0 where
+  pub refusalIs : walk .refusal ≡ refusal
+  pub placeIs : walk .place ≡ place
+
+-- what the block of a sequence makes of a walk: nothing once refused; 8, then 9, then the paper's turn
+pub record Turns (log home : List ℕ) (sequence : ℕ) (kind : Kind) (ticket : ℕ) (walk : Walk) (frames : List ℕ) (result : Walk) (frames′ : List ℕ) : Type 0 where
+  pub countIs : result .table .count ≡ walk .table .count
+  pub stays : (walk .refusal ≡ 0 → ⊥) → result ≡ walk
+  pub ready : result .refusal ≡ 0 → Ready log home (suc sequence) result
+  pub outOfOrder : (paper : PaperWalk) → Stands log home sequence walk frames paper → inOrder kind ticket paper ≡ false → Refused result 8 sequence
+  pub tooFew : (paper : PaperWalk) → Stands log home sequence walk frames paper → inOrder kind ticket paper ≡ true
+      → framed (walk .table .count) (pageAt home) kind paper ≡ false → Refused result 9 sequence
+  pub goesOn : (paper : PaperWalk) → Stands log home sequence walk frames paper → inOrder kind ticket paper ≡ true
+      → framed (walk .table .count) (pageAt home) kind paper ≡ true
+      → Stands log home (suc sequence) result frames′ (walkBlock (pageAt home) sequence kind paper)
+
+-- what a walk leads to, with so many blocks left from a sequence on: refused, it is that; otherwise what the paper's walk over them finds
+pub record Leads (log home : List ℕ) (slots next sequence more : ℕ) (walk : Walk) (frames : List ℕ) (found : Finding) : Type 0 where
+  pub refused : (walk .refusal ≡ 0 → ⊥) → found ≡ stops (walk .refusal) (walk .place)
+  pub goes : walk .refusal ≡ 0
+      → (paper : PaperWalk) × Stands log home sequence walk frames paper
+      × (walkFrom slots (walk .table .count) (pageAt home) next sequence (blocksFrom log sequence more) paper ≡ found)
+
+-- what all blocks from first to last make of a walk: it leads to the same
+pub record Walks (log home : List ℕ) (first last : ℕ) (walk : Walk) (frames : List ℕ) (result : Walk) (frames′ : List ℕ) : Type 0 where
+  pub countIs : result .table .count ≡ walk .table .count
+  pub ready : result .refusal ≡ 0 → Ready log home (last + 1) result
+  pub leads : (slots next : ℕ) (found : Finding) → Leads log home slots next first (last + 1 - first) walk frames found
+      → Leads log home slots next (last + 1) 0 result frames′ found

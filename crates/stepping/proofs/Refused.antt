@@ -1,0 +1,56 @@
+-- A refused Log step or Clean step keeps its whole promise: it answers its refusal and leaves everything as it was.
+-- Assumes nothing.
+use mathlib.Core.Path.{_≡_, refl, sym, _∙_}
+use Prim.Native.Nat.{ℕ, _<_}
+use mathlib.Core.List.{List}
+use native.Mathlib.Omega.{arith}
+use Rattle.promises.specs.declared.State.{State}
+use Rattle.promises.specs.declared.Refusal.{Refusal}
+use Rattle.promises.specs.declared.Refusal.the-variants.{
+  WrongLength,
+  NotSound,
+  OutOfRange,
+  WrongMoment,
+  Full,
+  SequencesUsedUp,
+  LogDamaged,
+  LogOutOfOrder,
+  TooFewFrames,
+  NothingToDo,
+  HeldBack,
+}
+use Rattle.promises.specs.declared.Answer.the-variants.{Refused}
+use Rattle.promises.specs.declared.Logged.the-variants.{Refused as LogRefused}
+use Rattle.promises.specs.Answers.{numberOf}
+use Rattle.promises.specs.LogStep.{logRefusalOf, LogSteps}
+use Rattle.promises.specs.CleanStep.{cleanRefusalOf, CleanSteps}
+
+-- every refusal has a number
+pub numbered : (refusal : Refusal) → 0 < numberOf refusal
+numbered WrongLength = omega arith
+numbered NotSound = omega arith
+numbered OutOfRange = omega arith
+numbered WrongMoment = omega arith
+numbered Full = omega arith
+numbered SequencesUsedUp = omega arith
+numbered LogDamaged = omega arith
+numbered LogOutOfOrder = omega arith
+numbered TooFewFrames = omega arith
+numbered NothingToDo = omega arith
+numbered HeldBack = omega arith
+
+refuses : {X : Type 0} (refusal : Refusal) (number : ℕ) → numberOf refusal ≡ number → number ≡ 0 → X
+refuses refusal number e z = absurd (omega (arith, numbered refusal))
+
+pub log-refused : (s : State) (log home frames staging : List ℕ) (refusal : Refusal) → numberOf refusal ≡ logRefusalOf s log home frames staging
+    → LogSteps s log home frames staging (record { state = s; answer = LogRefused refusal }) log frames
+log-refused s log home frames staging refusal e = record {
+  refusal = e;
+  refused = λ n. (refl, refl, refl);
+  updates = λ z g q h l. refuses refusal _ e z;
+  commits = λ z g q h l. refuses refusal _ e z;
+}
+
+pub clean-refused : (s : State) (log home frames : List ℕ) (refusal : Refusal) → numberOf refusal ≡ cleanRefusalOf s log home frames
+    → CleanSteps s log home frames (record { state = s; answer = Refused refusal }) log home
+clean-refused s log home frames refusal e = record { refusal = e; refused = λ n. (refl, refl, refl); accepted = λ z. refuses refusal _ e z }

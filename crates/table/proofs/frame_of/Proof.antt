@@ -1,0 +1,72 @@
+-- `table::frame_of` meets its contract: what is left of the search from index i on.
+-- Assumes nothing.
+use Prim.Native.Nat.{_≤_, _-_, _+_}
+use mathlib.Core.Path.{_≡_}
+use lib.ListN.{length, take}
+use Rattle.table.specs.Search.{isOf, placeOf}
+use Rattle.table.proofs.Scans.{length-mapped, rest, place-hit, place-miss, place-end}
+use borrow.Author.Needs.{needs}
+use native.Mathlib.Omega.{arith}
+use Rattle.table.proofs.frame_of.Statement.{statement}
+use Rattle.table.proofs.frame_of.Tie as tie
+
+abbrev Inv-loop : tie.InvT-loop
+Inv-loop page table count i₀ i = (i ≤ count) × (i + placeOf (isOf page) (rest (table .dirty) count i) ≡ placeOf (isOf page) (take count (table .dirty)))
+
+abbrev μ-loop : tie.MeasureT-loop
+μ-loop page table count i₀ i = count - i
+
+loop-holds : tie.Need-loop-holds Inv-loop μ-loop
+loop-holds c = (search needs, omega arith)
+
+mul-entry : tie.Need-mul-entry Inv-loop μ-loop
+mul-entry c = search needs
+
+element-copy-out-entry : tie.Need-element-copy-out-entry Inv-loop μ-loop
+element-copy-out-entry c = search needs
+
+cast-if1 : tie.Need-cast-if1 Inv-loop μ-loop
+cast-if1 c = search needs
+
+returns : tie.Need-returns Inv-loop μ-loop
+returns c =
+    let a = (c .before .before .before .before .before .before) .args in
+    let l = (c .before .before .before .before .before) .loop in
+    let long : length (a .t1 .dirty) ≡ 32 = search (needs, length-mapped) in
+    omega (arith, place-hit (isOf (a .page)) (a .t1 .dirty) (a .t1 .count) (l .i) (omega arith) (omega arith) (c .if1 .taken))
+
+add-i : tie.Need-add-i Inv-loop μ-loop
+add-i c = search needs
+
+loop-less : tie.Need-loop-less Inv-loop μ-loop
+loop-less c = search needs
+
+loop-again : tie.Need-loop-again Inv-loop μ-loop
+loop-again c =
+    let a = (c .before .before .before .before .before .before) .args in
+    let l = (c .before .before .before .before .before) .loop in
+    let long : length (a .t1 .dirty) ≡ 32 = search (needs, length-mapped) in
+    omega (arith, place-miss (isOf (a .page)) (a .t1 .dirty) (a .t1 .count) (l .i) (omega arith) (omega arith) (c .if1 .left))
+
+returns-2 : tie.Need-returns-2 Inv-loop μ-loop
+returns-2 c =
+    let a = (c .before .before) .args in
+    let l = (c .before) .loop in
+    let long : length (a .t1 .dirty) ≡ 32 = search (needs, length-mapped) in
+    omega (arith, place-end (isOf (a .page)) (a .t1 .dirty) (a .t1 .count) (l .i) (omega arith) (omega arith))
+
+pub frame-of-spec : {M : Type 1} → statement M
+frame-of-spec =
+    tie.close
+    (tie.spec
+    Inv-loop
+    μ-loop
+    loop-holds
+    mul-entry
+    element-copy-out-entry
+    cast-if1
+    returns
+    add-i
+    loop-less
+    loop-again
+    returns-2)
