@@ -1,0 +1,109 @@
+-- Demand 3 of the code as shipped, and what follows from it for a desk.
+-- Assumes nothing.
+use denote.Ref.{now}
+use mathlib.Core.Path.{_≡_, subst}
+use mathlib.Core.List.{List}
+use Prim.Native.Nat.{ℕ}
+use Rattle.promises.specs.declared.Answer.{Answer}
+use Rattle.promises.specs.Format.{Formats}
+use Rattle.promises.specs.Open.{Opens}
+use Rattle.promises.specs.Describe.{Describes}
+use Rattle.promises.specs.LogStep.{LogSteps}
+use Rattle.promises.specs.CleanStep.{CleanSteps}
+use Rattle.promises.specs.Events.{World, Call, opening, begin, describe, ending, logStep, cleanStep, reading, settling, Reply, Step}
+use Rattle.promises.specs.Corollaries.{StaysSettled, AllOrNothing, NoTrace, OpensAlike}
+use Rattle.promises.proofs.Accounts.{book-accounts}
+use Rattle.promises.proofs.Refines.{Refines, demand-three-by}
+use Rattle.promises.proofs.Corollaries.{stays-settled, all-or-nothing, no-trace, opens-alike}
+use Rattle.durability.specs.Called.{Formatted, Taken}
+use Rattle.durability.specs.Durable.{shipped, Durable, Accounted}
+
+-- a step of the code is one that the promises allow
+step-promised : (call : Call) (world : World) (reply : Reply) (world′ : World) → Taken call world reply world′ → Step call world reply world′
+step-promised (opening frames staging) w a w′ t = record {
+  result = t .result;
+  frames′ = now (t .leftFrames);
+  promise =
+      subst (λ (x : List ℕ). Opens x (w .home) frames staging (t .result) (now (t .leftFrames))) (t .logIs)
+      (subst (λ (x : List ℕ). Opens (now (t .log)) x frames staging (t .result) (now (t .leftFrames))) (t .homeIs)
+      (subst (λ (x : List ℕ). Opens (now (t .log)) (now (t .home)) x staging (t .result) (now (t .leftFrames))) (t .framesAre)
+      (subst (λ (x : List ℕ). Opens (now (t .log)) (now (t .home)) (now (t .lentFrames)) x (t .result) (now (t .leftFrames))) (t .stagingIs) (t .learnt))));
+  replyIs = t .replyIs;
+  after = t .after;
+}
+step-promised (begin u) w a w′ t = record { result = t .result; promise = t .learnt; replyIs = t .replyIs; after = t .after }
+step-promised (describe u) w a w′ t = record {
+  result = t .result;
+  staging′ = now (t .staging′);
+  promise =
+      subst (λ (x : List ℕ). Describes (w .state) u x (t .result) (now (t .staging′))) (t .stagingIs)
+      (subst (λ (x : List ℕ). Describes (w .state) (record { page = u .page; offset = u .offset; bytes = x }) (now (t .staging)) (t .result) (now (t .staging′))) (t .bytesAre) (t .learnt));
+  replyIs = t .replyIs;
+  after = t .after;
+}
+step-promised ending w a w′ t = record { result = t .result; promise = t .learnt; replyIs = t .replyIs; after = t .after }
+step-promised logStep w a w′ t = record {
+  result = t .result;
+  log′ = now (t .log′);
+  frames′ = now (t .frames′);
+  promise =
+      subst (λ (x : List ℕ). LogSteps (w .state) x (w .home) (w .frames) (w .staging) (t .result) (now (t .log′)) (now (t .frames′))) (t .logIs)
+      (subst (λ (x : List ℕ). LogSteps (w .state) (now (t .log)) x (w .frames) (w .staging) (t .result) (now (t .log′)) (now (t .frames′))) (t .homeIs)
+      (subst (λ (x : List ℕ). LogSteps (w .state) (now (t .log)) (now (t .home)) x (w .staging) (t .result) (now (t .log′)) (now (t .frames′))) (t .framesAre)
+      (subst (λ (x : List ℕ). LogSteps (w .state) (now (t .log)) (now (t .home)) (now (t .frames)) x (t .result) (now (t .log′)) (now (t .frames′))) (t .stagingIs) (t .learnt))));
+  replyIs = t .replyIs;
+  after = t .after;
+}
+step-promised cleanStep w a w′ t = record {
+  result = t .result;
+  log′ = now (t .log′);
+  home′ = now (t .home′);
+  promise =
+      subst (λ (x : List ℕ). CleanSteps (w .state) x (w .home) (w .frames) (t .result) (now (t .log′)) (now (t .home′))) (t .logIs)
+      (subst (λ (x : List ℕ). CleanSteps (w .state) (now (t .log)) x (w .frames) (t .result) (now (t .log′)) (now (t .home′))) (t .homeIs)
+      (subst (λ (x : List ℕ). CleanSteps (w .state) (now (t .log)) (now (t .home)) x (t .result) (now (t .log′)) (now (t .home′))) (t .framesAre) (t .learnt)));
+  replyIs = t .replyIs;
+  after = t .after;
+}
+step-promised (reading page) w a w′ t = record {
+  home = t .home;
+  frames = t .frames;
+  homeIs = t .homeIs;
+  framesAre = t .framesAre;
+  number = now (t .refusal′);
+  result = t .result;
+  promise = t .learnt;
+  replyIs = t .replyIs;
+  after = t .after;
+}
+step-promised (settling ticket) w a w′ t = record { result = t .result; promise = t .learnt; replyIs = t .replyIs; after = t .after }
+
+format-promised : (log : List ℕ) (answer : Answer) (log′ : List ℕ) → Formatted log answer log′ → Formats log answer log′
+format-promised log answer log′ t =
+    subst (λ (x : List ℕ). Formats x answer log′) (t .lentIs) (subst (λ (x : List ℕ). Formats (now (t .lent)) answer x) (t .leftIs) (t .learnt))
+
+keeps-promises : Refines shipped
+keeps-promises = record { formats = format-promised; steps = step-promised }
+
+-- demand 3, of the code as shipped
+pub durable : Durable
+durable = demand-three-by shipped keeps-promises
+
+pub accounted : Accounted
+accounted = book-accounts shipped
+
+-- a settled ticket stays settled over every cut
+pub settled-stays : StaysSettled shipped
+settled-stays = stays-settled shipped keeps-promises
+
+-- a coupon date and its accrual, described in one transaction, are both there or both absent
+pub whole-transactions : AllOrNothing shipped
+whole-transactions = all-or-nothing shipped keeps-promises
+
+-- a transaction that was ended but not committed leaves no trace after a cut
+pub uncommitted-gone : NoTrace shipped
+uncommitted-gone = no-trace shipped keeps-promises
+
+-- two openings in a row show the same
+pub openings-alike : OpensAlike shipped
+openings-alike = opens-alike shipped keeps-promises

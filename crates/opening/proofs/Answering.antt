@@ -1,0 +1,215 @@
+-- What Open answers is what it promises: a refusal with its place, or a sound state.
+-- Assumes nothing.
+use mathlib.Core.Path.{_≡_, refl, sym, ap, _∙_, subst}
+use mathlib.Core.Bool.{Bool, true, false, cond, not, _&&_}
+use mathlib.Core.List.{List, [], _∷_, map}
+use Prim.Native.Nat.{ℕ, _+_, _-_, _*_, _/_, _^_, _≤_, _<_}
+use native.Mathlib.Omega.{arith}
+use lib.Dec.{eqb, leb, ltb}
+use lib.ListN.{length, take, drop, replicate}
+use borrow.Author.Tests.{leb-true, eq-eqb, ne-eqb}
+use Rattle.block.proofs.Tests.{tests, by-cases, never-both}
+use Rattle.promises.specs.declared.State.{State}
+use Rattle.promises.specs.declared.Dirty.{Dirty}
+use Rattle.promises.specs.declared.Cleaning.the-variants.{Idle}
+use Rattle.promises.specs.declared.Opened.{Opened}
+use Rattle.promises.specs.declared.Opened.the-variants.{Refused as OpenRefused, Settled}
+use Rattle.promises.specs.declared.OpenOutcome.{OpenOutcome}
+use Rattle.promises.specs.Areas.{pageAt, slotsIn, pagesIn, framesIn}
+use Rattle.promises.specs.Answers.{openRefusalIn, placeIn}
+use Rattle.promises.specs.Blocks.{slotsOf}
+use Rattle.promises.specs.Contents.{Contents, contentsOf, dirtyOf, allZeroState, grouped}
+use Rattle.promises.specs.DirtyPages.{DirtyPage, lookUp}
+use Rattle.promises.specs.Newest.{Gathered, missing, blocks, gathered, newest, keepOf}
+use Rattle.promises.specs.Sums.{firstGroups, smallest}
+use Rattle.promises.specs.Sound.{sound, allBelow, distinct, dirtyNumbers}
+use Rattle.promises.specs.Walk.{Walk as PaperWalk, Finding, stops, stands, finding, walkGathered, startWith, believed, walkFrom}
+use Rattle.promises.specs.Open.{lengthsFit, openFinding, framesAfter, opened, OpenStops, OpenStands, Opens}
+use Rattle.promises.proofs.Soundness.{Sound, of-sound, and-both}
+use Rattle.table.specs.Table.{Holds, Each}
+use Rattle.table.proofs.Entries.{within-most}
+use Rattle.table.proofs.Holding.{held-below, Below}
+use Rattle.recovery.specs.declared.Walk.{Walk}
+use Rattle.recovery.specs.Walking.{Early, Stands, spanFits}
+use Rattle.opening.specs.declared.Found.{Found}
+use Rattle.opening.specs.Findings.{Accepts, Finds}
+use Rattle.opening.specs.States.{idleState}
+use Rattle.opening.proofs.Ending.{walk-refusals}
+
+-- ---- the lengths
+
+pub record Lengths (log home frames staging : ℕ) : Type 0 where
+  pub logWhole : log ≡ slotsIn log * 512
+  pub slotsLeast : 8 ≤ slotsIn log
+  pub slotsMost : slotsIn log ≤ 1024
+  pub pagesLeast : 1 ≤ pagesIn home
+  pub pagesMost : pagesIn home ≤ 4096
+  pub framesWhole : frames ≡ framesIn frames * 1024
+  pub framesLeast : 1 ≤ framesIn frames
+  pub framesMost : framesIn frames ≤ 32
+
+pub lengths-told : (log home frames staging : ℕ) → lengthsFit log home frames staging ≡ true → Lengths log home frames staging
+lengths-told log home frames staging h =
+    let g = simp tests at h in
+    record {
+      logWhole = omega arith;
+      slotsLeast = omega arith;
+      slotsMost = omega arith;
+      pagesLeast = omega arith;
+      pagesMost = omega arith;
+      framesWhole = omega arith;
+      framesLeast = omega arith;
+      framesMost = omega arith;
+    }
+
+-- ---- what an opening can be refused with: 7, 8 or 9
+
+gathered-refusals : (count frames : ℕ) (home : ℕ → List ℕ) (slots : List Rattle.promises.specs.Blocks.Slot) (g : Gathered) (refusal place : ℕ)
+    → walkGathered count frames home slots g ≡ stops refusal place → (7 ≤ refusal) × (refusal ≤ 9)
+gathered-refusals count frames home slots (missing s) refusal place e = let z : 7 ≡ refusal = cc in (omega arith, omega arith)
+gathered-refusals count frames home slots (blocks list) refusal place e =
+    let r = walk-refusals count frames home _ _ list _ refusal place e in
+    (omega (arith, r .0), r .1)
+
+pub finding-refusals : (slots pages frames : ℕ) (log home : List ℕ) (refusal place : ℕ) → finding slots pages frames log home ≡ stops refusal place
+    → (7 ≤ refusal) × (refusal ≤ 9)
+unfolding finding
+finding-refusals slots pages frames log home refusal place e =
+    gathered-refusals slots frames (pageAt home) (slotsOf slots pages log) (gathered slots (slotsOf slots pages log)) refusal place e
+
+module _ (log home : List ℕ) (count : ℕ) (found : Found) (frames : List ℕ) (slots pages : ℕ)
+    (x : Finds log home count (finding slots pages count log home) found frames) where
+  pub refusal-range : (found .walk .refusal ≡ 0 → ⊥) → (7 ≤ found .walk .refusal) × (found .walk .refusal ≤ 9)
+  refusal-range n = finding-refusals slots pages count log home (found .walk .refusal) (found .walk .place) (x .refused n)
+
+  pub next-fits : found .walk .refusal ≡ 0 → found .newest + 1 ≤ 2 ^ 48
+  next-fits z = omega (arith, x .accepted z .newestBelow)
+
+-- ---- from the finding to the promise
+
+module _ (log home frames staging : List ℕ) (r : OpenOutcome) (frames′ : List ℕ) where
+  -- refused
+  opens-stopped : (refusal place : ℕ) → openFinding log home (length frames) (length staging) ≡ stops refusal place → OpenStops refusal place frames r frames′
+      → Opens log home frames staging r frames′
+  opens-stopped refusal place e s = record { refused = stopped; accepted = never }
+    where
+      stopped : (refusal′ place′ : ℕ) → openFinding log home (length frames) (length staging) ≡ stops refusal′ place′ → OpenStops refusal′ place′ frames r frames′
+      stopped refusal′ place′ f =
+          let q : stops refusal place ≡ stops refusal′ place′ = sym e ∙ f in
+          let x : refusal ≡ refusal′ = cc in
+          let y : place ≡ place′ = cc in
+          subst (λ (p : ℕ). OpenStops refusal′ p frames r frames′) y (subst (λ (n : ℕ). OpenStops n place frames r frames′) x s)
+
+      never : (next : ℕ) (walk : PaperWalk) → openFinding log home (length frames) (length staging) ≡ stands next walk
+          → OpenStands next walk log home frames r frames′
+      never next walk f = let q : stops refusal place ≡ stands next walk = sym e ∙ f in let z : _≡_ {A = ℕ} 0 1 = cc in absurd (omega arith)
+
+  -- accepted
+  opens-standing : (next : ℕ) (walk : PaperWalk) → openFinding log home (length frames) (length staging) ≡ stands next walk
+      → OpenStands next walk log home frames r frames′ → Opens log home frames staging r frames′
+  opens-standing next walk e s = record { refused = never; accepted = standing }
+    where
+      never : (refusal place : ℕ) → openFinding log home (length frames) (length staging) ≡ stops refusal place → OpenStops refusal place frames r frames′
+      never refusal place f = let q : stands next walk ≡ stops refusal place = sym e ∙ f in let z : _≡_ {A = ℕ} 0 1 = cc in absurd (omega arith)
+
+      standing : (next′ : ℕ) (walk′ : PaperWalk) → openFinding log home (length frames) (length staging) ≡ stands next′ walk′
+          → OpenStands next′ walk′ log home frames r frames′
+      standing next′ walk′ f =
+          let q : stands next walk ≡ stands next′ walk′ = sym e ∙ f in
+          let x : next ≡ next′ = cc in
+          let y : walk ≡ walk′ = cc in
+          subst (λ (w : PaperWalk). OpenStands next′ w log home frames r frames′) y (subst (λ (n : ℕ). OpenStands n walk log home frames r frames′) x s)
+
+  by-lengths : (b : Bool) → lengthsFit (length log) (length home) (length frames) (length staging) ≡ b
+      → openFinding log home (length frames) (length staging)
+      ≡ cond b (finding (slotsIn (length log)) (pagesIn (length home)) (framesIn (length frames)) log home) (stops 1 0)
+  unfolding openFinding
+  by-lengths b e = ap (λ (c : Bool). cond c (finding (slotsIn (length log)) (pagesIn (length home)) (framesIn (length frames)) log home) (stops 1 0)) e
+
+  -- refusal 1 changes nothing
+  pub opens-lengths : lengthsFit (length log) (length home) (length frames) (length staging) ≡ false → openRefusalIn (r .answer) ≡ 1 → placeIn (r .answer) ≡ 0
+      → r .state ≡ allZeroState → frames′ ≡ frames → Opens log home frames staging r frames′
+  opens-lengths e a p s f = opens-stopped 1 0 (by-lengths false e) record { refusalIs = a; placeIs = p; stateIs = s; framesAre = f }
+
+  module _ (fit : lengthsFit (length log) (length home) (length frames) (length staging) ≡ true) (found : Found) (mid : List ℕ)
+      (x : Finds log home (framesIn (length frames)) (finding (slotsIn (length log)) (pagesIn (length home)) (framesIn (length frames)) log home) found mid) where
+    told : Lengths (length log) (length home) (length frames) (length staging)
+    told = lengths-told (length log) (length home) (length frames) (length staging) fit
+
+    -- after 7, 8 and 9 the frames are zero
+    pub opens-refused : (found .walk .refusal ≡ 0 → ⊥) → openRefusalIn (r .answer) ≡ found .walk .refusal → placeIn (r .answer) ≡ found .walk .place
+        → r .state ≡ allZeroState → length mid ≡ length frames → frames′ ≡ replicate (length mid) 0 → Opens log home frames staging r frames′
+    opens-refused n a p s l f =
+        opens-stopped (found .walk .refusal) (found .walk .place) (by-lengths true fit ∙ x .refused n)
+        record {
+          refusalIs = a;
+          placeIs = p;
+          stateIs = s;
+          framesAre = f ∙ ap (λ (m : ℕ). replicate m 0) l
+              ∙ sym (ap (λ (b : Bool). cond b frames (replicate (length frames) 0)) (ne-eqb (found .walk .refusal) 1 (λ q. absurd (omega (arith, refusal-range log home (framesIn (length frames)) found mid (slotsIn (length log)) (pagesIn (length home)) x n .0)))));
+        }
+
+    -- an accepted Open's state is sound, whatever the log holds
+    module _ (z : found .walk .refusal ≡ 0) where
+      abbrev acc : Accepts log home (finding (slotsIn (length log)) (pagesIn (length home)) (framesIn (length frames)) log home) found mid
+      acc = x .accepted z
+
+      abbrev state : State
+      state = idleState (pagesIn (length home)) (slotsIn (length log)) (framesIn (length frames)) (found .newest + 1) (found .walk .ticket) (found .walk .table .dirty)
+
+      below : (es : List DirtyPage) → Each (Early (pagesIn (length home)) (found .newest + 1)) es → Each (Below (pagesIn (length home)) (found .newest + 1)) es
+      below [] e = tt
+      below (d ∷ es) e = ((e .0 .0, e .0 .2), below es (e .1))
+
+      holds : Holds (found .walk .table) mid (acc .paper .dirtyPages)
+      holds = acc .standsFor .holds
+
+      bounds : (allBelow (pagesIn (length home)) (dirtyNumbers (found .walk .table .dirty)) ≡ true)
+          × (allBelow (found .newest + 1) (firstGroups (found .walk .table .dirty)) ≡ true)
+      bounds = held-below (pagesIn (length home)) (found .newest + 1) (found .walk .table) mid (acc .paper .dirtyPages) holds (below (acc .paper .dirtyPages) (acc .standsFor .early))
+
+      few : length (firstGroups (found .walk .table .dirty)) ≤ framesIn (length frames)
+      few = omega (arith, within-most (found .walk .table .count) (found .walk .table .dirty) (holds .within), x .countIs)
+
+      span : found .newest + 1 - smallest (found .newest + 1) (firstGroups (found .walk .table .dirty)) + length (firstGroups (found .walk .table .dirty)) ≤ slotsIn (length log)
+      span = leb-true _ _ (acc .spanWithin)
+
+      sound-facts : Sound state
+      sound-facts = record {
+        pages = (told .pagesLeast, told .pagesMost);
+        slots = (told .slotsLeast, told .slotsMost);
+        frames = (told .framesLeast, told .framesMost);
+        distinctPages = holds .tableDistinct;
+        pagesBelow = bounds .0;
+        framesBelow = ap (λ (n : ℕ). length (firstGroups (drop n (found .walk .table .dirty)))) (sym (x .countIs)) ∙ holds .within;
+        firstsBelow = bounds .1;
+        ticket = omega (arith, acc .ticketBelow);
+        distinctAreas = refl;
+        areasBelow = refl;
+        places = refl;
+        groups = refl;
+        queued = omega arith;
+        staged = omega arith;
+        reserved = omega arith;
+        described = omega arith;
+        stored = refl;
+        cleaning = refl;
+        slotSum = omega (arith, span);
+        frameSum = omega (arith, few);
+        sequenceSum = omega (arith, acc .newestBelow);
+      }
+
+      pub opens-accepted : r .answer ≡ Settled (found .walk .ticket) → r .state ≡ state → length mid ≡ length frames → frames′ ≡ mid
+          → Opens log home frames staging r frames′
+      unfolding grouped
+      opens-accepted a s l f =
+          opens-standing (found .newest + 1) (acc .paper) (by-lengths true fit ∙ acc .foundIs)
+          record {
+            answerIs = a ∙ ap Settled (acc .standsFor .ticketIs);
+            framesLong = ap length f ∙ l;
+            staysSound = ap sound s ∙ of-sound state sound-facts;
+            contentsAre = λ staging′. ap (λ (y : State). contentsOf y staging′) s
+                ∙ ap (opened (pagesIn (length home)) (slotsIn (length log)) (framesIn (length frames)) (found .newest + 1)) (acc .standsFor .ticketIs);
+            dirtyAre = λ page. ap (λ (y : State). lookUp page (dirtyOf y frames′)) s
+                ∙ ap (λ (y : List ℕ). lookUp page (dirtyOf state y)) f ∙ holds .looks page;
+          }

@@ -1,0 +1,156 @@
+-- Where a walk starts and how it ends: the last test is the paper's.
+-- Assumes nothing.
+use mathlib.Core.Path.{_≡_, refl, sym, ap, _∙_, subst}
+use mathlib.Core.Bool.{Bool, true, false, cond}
+use mathlib.Core.List.{List, [], _∷_}
+use Prim.Native.Nat.{ℕ, zero, suc, _+_, _-_, _≤_, _<_}
+use native.Mathlib.Omega.{arith}
+use native.Mathlib.Decide.{ℕ-discrete}
+use lib.Dec.{eqb, leb}
+use lib.ListN.{length}
+use borrow.Author.Tests.{eq-eqb, ne-eqb}
+use Rattle.block.proofs.Tests.{by-cases}
+use Rattle.block.specs.Sizes.{sequenceEnd}
+use Rattle.promises.specs.Areas.{pageAt, slotsIn}
+use Rattle.promises.specs.Blocks.{LogBlock}
+use Rattle.promises.specs.DirtyPages.{keepFromOf}
+use Rattle.promises.specs.Walk.{Walk as PaperWalk, Finding, stops, stands, ending, walkFrom, startWith, inOrder, framed, walkBlock}
+use Rattle.table.proofs.Holding.{empty-holds, held-count, held-keep}
+use Rattle.recovery.specs.declared.Walk.{Walk}
+use Rattle.recovery.specs.Log.{updatesFrom, blocksFrom}
+use Rattle.recovery.specs.Walking.{refusedAt, spanFits, tested, Ready, Stands, Leads, Walks}
+use Rattle.recovery.proofs.Changing.{tested-not, tested-by}
+use Rattle.opening.specs.declared.Found.{Found}
+use Rattle.opening.specs.Findings.{startOf, Finds}
+
+-- ---- the start
+
+pub start-ready : (log home : List ℕ) (first count ticket : ℕ) → ticket < first → Ready log home first (startOf count ticket)
+start-ready log home first count ticket h = record {
+  half = λ x. absurd (omega arith);
+  begins = λ x. absurd (omega arith);
+  few = omega arith;
+  ticketBelow = h;
+  placed = λ i x. absurd (omega arith);
+}
+
+start-stands : (log home frames : List ℕ) (first count ticket : ℕ) → Stands log home first (startOf count ticket) frames (startWith ticket)
+unfolding updatesFrom
+start-stands log home frames first count ticket = record {
+  going = refl;
+  notFull = refl;
+  ticketIs = refl;
+  startIs = refl;
+  groupIs = refl;
+  holds = empty-holds count frames;
+  early = tt;
+}
+
+pub start-leads : (log home frames : List ℕ) (slots next first more count ticket : ℕ)
+    → Leads log home slots next first more (startOf count ticket) frames (walkFrom slots count (pageAt home) next first (blocksFrom log first more) (startWith ticket))
+start-leads log home frames slots next first more count ticket = record {
+  refused = λ n. absurd (n refl);
+  goes = λ z. (startWith ticket, start-stands log home frames first count ticket, refl);
+}
+
+-- ---- the end
+
+-- the code's last test is the paper's
+span-is : (log home : List ℕ) (s : ℕ) (walk : Walk) (frames : List ℕ) (paper : PaperWalk) (slots next : ℕ) → Stands log home s walk frames paper
+    → spanFits (walk .table) slots next ≡ leb (next - keepFromOf next (paper .dirtyPages) + length (paper .dirtyPages)) slots
+span-is log home s walk frames paper slots next st =
+    ap (λ (k : ℕ). leb (next - k + length (Rattle.promises.specs.Sums.firstGroups (walk .table .dirty))) slots) (held-keep (walk .table) frames (paper .dirtyPages) (st .holds) next)
+    ∙ ap (λ (d : ℕ). leb (next - keepFromOf next (paper .dirtyPages) + d) slots) (held-count (walk .table) frames (paper .dirtyPages) (st .holds))
+
+module _ (log home : List ℕ) (last : ℕ) (walk : Walk) (frames : List ℕ) (found : Finding) (below : last < sequenceEnd)
+    (ready : walk .refusal ≡ 0 → Ready log home (last + 1) walk)
+    (l : Leads log home (slotsIn (length log)) (last + 1) (last + 1) 0 walk frames found) where
+  abbrev N : ℕ
+  N = slotsIn (length log)
+
+  -- what the walk over no more blocks finds
+  over : (z : walk .refusal ≡ 0) → ending N (last + 1) (l .goes z .0) ≡ found
+  unfolding walkFrom blocksFrom
+  over z = l .goes z .2
+
+  passes : (z : walk .refusal ≡ 0) → spanFits (walk .table) N (last + 1) ≡ true → Finds log home (walk .table .count) found (record { newest = last; walk = walk }) frames
+  passes z f =
+      let st : Stands log home (last + 1) walk frames (l .goes z .0) = l .goes z .1 in
+      record {
+        countIs = refl;
+        refused = λ n. absurd (n z);
+        accepted = λ y. record {
+          paper = l .goes z .0;
+          foundIs = sym (over z)
+              ∙ ap (λ (b : Bool). cond b (stands (last + 1) (l .goes z .0)) (stops 8 (last + 1 - 1))) (sym (span-is log home (last + 1) walk frames (l .goes z .0) N (last + 1) st) ∙ f);
+          standsFor = st;
+          ticketBelow = ready z .ticketBelow;
+          spanWithin = f;
+          newestBelow = below;
+        };
+      }
+
+  fails : (z : walk .refusal ≡ 0) → spanFits (walk .table) N (last + 1) ≡ false
+      → Finds log home (walk .table .count) found (record { newest = last; walk = refusedAt walk 8 last }) frames
+  fails z f =
+      let st : Stands log home (last + 1) walk frames (l .goes z .0) = l .goes z .1 in
+      record {
+        countIs = refl;
+        refused = λ n. sym (over z)
+            ∙ ap (λ (b : Bool). cond b (stands (last + 1) (l .goes z .0)) (stops 8 (last + 1 - 1))) (sym (span-is log home (last + 1) walk frames (l .goes z .0) N (last + 1) st) ∙ f)
+            ∙ ap (stops 8) one-less;
+        accepted = λ y. absurd (omega arith);
+      }
+    where
+      one-less : last + 1 - 1 ≡ last
+      one-less = omega arith
+
+  pub ends : (r : Walk) → r ≡ tested N last walk → Finds log home (walk .table .count) found (record { newest = last; walk = r }) frames
+  ends r e =
+      subst (λ (w : Walk). Finds log home (walk .table .count) found (record { newest = last; walk = w }) frames) (sym e)
+      (elim (ℕ-discrete (walk .refusal) 0) [
+        | yes z ↦ by-cases (spanFits (walk .table) N (last + 1))
+            (λ f. subst (λ (w : Walk). Finds log home (walk .table .count) found (record { newest = last; walk = w }) frames) (tested-by N last walk true z f) (passes z f))
+            (λ f. subst (λ (w : Walk). Finds log home (walk .table .count) found (record { newest = last; walk = w }) frames) (tested-by N last walk false z f) (fails z f))
+        | no n ↦ subst (λ (w : Walk). Finds log home (walk .table .count) found (record { newest = last; walk = w }) frames) (tested-not N last walk n)
+            record { countIs = refl; refused = λ m. l .refused n; accepted = λ y. absurd (n y) }
+      ])
+
+-- ---- what a walk can be refused with: 8 or 9
+
+pub walk-refusals : (slots frames : ℕ) (home : ℕ → List ℕ) (next s : ℕ) (bs : List LogBlock) (walk : PaperWalk) (refusal place : ℕ)
+    → walkFrom slots frames home next s bs walk ≡ stops refusal place → (8 ≤ refusal) × (refusal ≤ 9)
+unfolding walkFrom
+walk-refusals slots frames home next s [] walk refusal place e =
+    by-cases (leb (next - keepFromOf next (walk .dirtyPages) + length (walk .dirtyPages)) slots)
+    (λ f. let h : stands next walk ≡ stops refusal place = rw f at e in let z : _≡_ {A = ℕ} 0 1 = cc in absurd (omega arith))
+    (λ f. let h : stops 8 (next - 1) ≡ stops refusal place = rw f at e in let z : 8 ≡ refusal = cc in (omega arith, omega arith))
+walk-refusals slots frames home next s (b ∷ bs) walk refusal place e =
+    by-cases (inOrder (b .kind) (b .ticket) walk)
+    (λ f. by-cases (framed frames home (b .kind) walk)
+    (λ g. walk-refusals slots frames home next (suc s) bs (walkBlock home s (b .kind) walk) refusal place (rw (f, g) at e))
+    (λ g. let h : stops 9 s ≡ stops refusal place = rw (f, g) at e in let z : 9 ≡ refusal = cc in (omega arith, omega arith)))
+    (λ f. let h : stops 8 s ≡ stops refusal place = rw f at e in let z : 8 ≡ refusal = cc in (omega arith, omega arith))
+
+-- ---- from start to end
+
+pub walked-finds : (log home frames mid : List ℕ) (first last ticket count : ℕ) (start walk r : Walk) → start ≡ startOf count ticket → last < sequenceEnd
+    → Walks log home first last start frames walk mid → r ≡ tested (slotsIn (length log)) last walk
+    → Finds log home count
+    (walkFrom (slotsIn (length log)) count (pageAt home) (last + 1) first (blocksFrom log first (last + 1 - first)) (startWith ticket))
+    (record { newest = last; walk = r }) mid
+walked-finds log home frames mid first last ticket count start walk r e below w t =
+    subst (λ (n : ℕ). Finds log home n found (record { newest = last; walk = r }) mid) same
+    (ends log home last walk mid found below (w .ready)
+    (w .leads N (last + 1) found (subst (λ (x : Walk). Leads log home N (last + 1) first (last + 1 - first) x frames found) (sym e)
+    (start-leads log home frames N (last + 1) first (last + 1 - first) count ticket)))
+    r t)
+  where
+    N : ℕ
+    N = slotsIn (length log)
+
+    found : Finding
+    found = walkFrom (slotsIn (length log)) count (pageAt home) (last + 1) first (blocksFrom log first (last + 1 - first)) (startWith ticket)
+
+    same : walk .table .count ≡ count
+    same = w .countIs ∙ ap (λ (x : Walk). x .table .count) e

@@ -1,0 +1,227 @@
+-- The slots that the scan noted give the blocks that the paper's opening gathers, or the lowest missing one.
+-- Assumes nothing.
+use mathlib.Core.Path.{_≡_, refl, sym, ap, _∙_, subst}
+use mathlib.Core.Bool.{Bool, true, false, cond, _&&_}
+use mathlib.Core.List.{List, [], _∷_}
+use Prim.Native.Nat.{ℕ, zero, suc, _+_, _-_, _*_, _≤_, _<_, max}
+use native.Mathlib.Omega.{arith}
+use native.Mathlib.Nat.{mod-lt}
+use native.Mathlib.Decide.{ℕ-discrete}
+use lib.Dec.{eqb}
+use lib.ListN.{length, getD}
+use borrow.Author.Tests.{eqb-true, eq-eqb, ne-eqb}
+use Rattle.area.proofs.Parts.{either}
+use Rattle.block.specs.Legal.{legal, slotOf}
+use Rattle.block.specs.Layout.{layout}
+use Rattle.block.specs.Kind.{lengthOf}
+use Rattle.block.specs.Slot.{allZero, same, blockAt, newBytesAt, valid as validBytes, judged, pickJudged}
+use Rattle.block.specs.declared.Block.{Block}
+use Rattle.block.specs.declared.Judged.the-variants.{Unused, Damaged, Valid}
+use Rattle.block.proofs.Facts.{facts, Facts}
+use Rattle.promises.specs.Areas.{pageAt, slotBytes, slotsIn, pagesIn}
+use Rattle.promises.specs.Blocks.{LogBlock, Slot, unused, damaged, valid, kindIn, slotIn, slotAt, slotsFrom, slotsOf}
+use Rattle.promises.specs.Newest.{
+  sequenceIn,
+  newest,
+  keepIn,
+  keepOf,
+  Gathered,
+  missing,
+  blocks,
+  withBlock,
+  blockIn,
+  gather,
+  isUnused,
+  allUnused,
+  gathered,
+}
+use Rattle.promises.specs.Walk.{Finding, stops, walkFrom, walkGathered, startWith, believed, finding}
+use Rattle.promises.proofs.Soundness.{and-both}
+use Rattle.promises.proofs.Slots.{get-slot}
+use Rattle.recovery.specs.Log.{bytesOf, headerOf, blockOf, blocksFrom, Legal}
+
+-- ---- a slot whose sequence is not 0 holds the block that its header tells
+
+-- a slot's block, as the walk sees it
+blockIs : List ℕ → LogBlock
+blockIs bytes = record { kind = kindIn (blockAt bytes .kind) bytes; keepFrom = blockAt bytes .«keep_from»; ticket = blockAt bytes .ticket }
+
+record Holding (N P : ℕ) (log : List ℕ) (j q : ℕ) : Type 0 where
+  slotIs : slotAt N P log j ≡ valid q (blockIs (slotBytes log j))
+  rules : legal N P (blockAt (slotBytes log j)) ≡ true
+  sequenceIs : blockAt (slotBytes log j) .sequence ≡ q
+  placeIs : slotOf N q ≡ j
+
+holding : (N P : ℕ) (log : List ℕ) (j q : ℕ) → (q ≡ 0 → ⊥) → sequenceIn (slotAt N P log j) ≡ q → Holding N P log j q
+unfolding slotAt judged validBytes blockIs
+holding N P log j q n e = go (allZero bytes) refl (validBytes N P j bytes (blockAt bytes)) refl e
+  where
+    bytes : List ℕ
+    bytes = slotBytes log j
+
+    go : (z : Bool) → allZero bytes ≡ z → (t : Bool) → validBytes N P j bytes (blockAt bytes) ≡ t
+        → sequenceIn (slotIn (pickJudged z Unused (pickJudged t (Valid (blockAt bytes)) Damaged)) bytes) ≡ q → Holding N P log j q
+    go true ez t et h = absurd (n (sym h))
+    go false ez false et h = absurd (n (sym h))
+    go false ez true et h =
+        let b = and-both (legal N P (blockAt bytes) && eqb (slotOf N (blockAt bytes .sequence)) j) (same bytes (layout (blockAt bytes) (newBytesAt bytes (lengthOf (blockAt bytes .kind))))) et in
+        let a = and-both (legal N P (blockAt bytes)) (eqb (slotOf N (blockAt bytes .sequence)) j) (b .0) in
+        record {
+          slotIs =
+              ap (λ (z : Bool). slotIn (pickJudged z Unused (pickJudged (validBytes N P j bytes (blockAt bytes)) (Valid (blockAt bytes)) Damaged)) bytes) ez
+              ∙ ap (λ (t : Bool). slotIn (pickJudged t (Valid (blockAt bytes)) Damaged) bytes) et
+              ∙ ap (λ (x : ℕ). valid x (blockIs bytes)) h;
+          rules = a .0;
+          sequenceIs = h;
+          placeIs = ap (slotOf N) (sym h) ∙ eqb-true _ _ (a .1);
+        }
+
+-- ---- the newest block
+
+newest-at : (N P : ℕ) (log : List ℕ) (i n : ℕ) → (newest (slotsFrom N P log i n) ≡ 0 → ⊥)
+    → (j : ℕ) × (j < i + n) × (sequenceIn (slotAt N P log j) ≡ newest (slotsFrom N P log i n))
+unfolding slotsFrom newest
+newest-at N P log i zero h = absurd (h refl)
+newest-at N P log i (suc n) h =
+    either (sequenceIn (slotAt N P log i)) (newest (slotsFrom N P log (suc i) n))
+    (λ l. let r = newest-at N P log (suc i) n (λ z. absurd (omega arith)) in (r .0, omega (arith, r .1), omega (arith, r .2)))
+    (λ l. (i, omega arith, omega arith))
+
+unused-newest : (slots : List Slot) → allUnused slots ≡ true → newest slots ≡ 0
+unfolding allUnused newest
+unused-newest [] h = refl
+unused-newest (unused ∷ slots) h = omega (arith, unused-newest slots h)
+unused-newest (damaged ∷ slots) h = let z : _≡_ {A = ℕ} 0 1 = cc in absurd (omega arith)
+unused-newest (valid q b ∷ slots) h = let z : _≡_ {A = ℕ} 0 1 = cc in absurd (omega arith)
+
+-- ---- the blocks from keep-from on
+
+module _ (log home : List ℕ) (big : 512 ≤ length log) where
+  abbrev N : ℕ
+  N = slotsIn (length log)
+
+  abbrev P : ℕ
+  P = pagesIn (length home)
+
+  abbrev slots : List Slot
+  slots = slotsOf N P log
+
+  some : 0 < N
+  some = omega arith
+
+  at-slot : (s : ℕ) → getD slots (slotOf N s) unused ≡ slotAt N P log (slotOf N s)
+  at-slot s = get-slot N P log (slotOf N s) (mod-lt s some)
+
+  -- a sequence that stands in its slot
+  pub stands-valid : (s : ℕ) → 1 ≤ s → sequenceIn (slotAt N P log (slotOf N s)) ≡ s → getD slots (slotOf N s) unused ≡ valid s (blockOf log s)
+  unfolding headerOf blockIs
+  stands-valid s h e = at-slot s ∙ holding N P log (slotOf N s) s (λ z. absurd (omega arith)) e .slotIs
+
+  pub stands-legal : (s : ℕ) → 1 ≤ s → sequenceIn (slotAt N P log (slotOf N s)) ≡ s → Legal log home s
+  unfolding headerOf
+  stands-legal s h e =
+      let x : Holding N P log (slotOf N s) s = holding N P log (slotOf N s) s (λ z. absurd (omega arith)) e in
+      record { rules = x .rules; sequenceIs = x .sequenceIs }
+
+  -- the newest block stands in its slot
+  pub newest-stands : (newest slots ≡ 0 → ⊥) → sequenceIn (slotAt N P log (slotOf N (newest slots))) ≡ newest slots
+  newest-stands n =
+      let r = newest-at N P log 0 N n in
+      let x : Holding N P log (r .0) (newest slots) = holding N P log (r .0) (newest slots) n (r .2) in
+      ap (λ (j : ℕ). sequenceIn (slotAt N P log j)) (x .placeIs) ∙ r .2
+
+  -- and its keep-from is the paper's k
+  pub keep-is : (newest slots ≡ 0 → ⊥) → keepOf N slots ≡ headerOf log (newest slots) .«keep_from»
+  keep-is n = ap keepIn (stands-valid (newest slots) (one (newest slots) n) (newest-stands n))
+    where
+      one : (m : ℕ) → (m ≡ 0 → ⊥) → 1 ≤ m
+      one m z = either m 1 (λ l. absurd (z (omega arith))) (λ l. l)
+
+  pub gather-all : (n k : ℕ) → 1 ≤ k → ((s : ℕ) → k ≤ s → s < k + n → sequenceIn (slotAt N P log (slotOf N s)) ≡ s)
+      → gather N slots n k ≡ blocks (blocksFrom log k n)
+  unfolding gather blocksFrom
+  gather-all zero k h f = refl
+  gather-all (suc n) k h f =
+      ap (λ (x : Slot). blockIn k x (gather N slots n (suc k))) (stands-valid k h (f k (omega arith) (omega arith)))
+      ∙ ap (λ (b : Bool). cond b (withBlock (blockOf log k) (gather N slots n (suc k))) (missing k)) (eq-eqb k k refl)
+      ∙ ap (withBlock (blockOf log k)) (gather-all n (suc k) (omega arith) (λ s l m. f s (omega arith) (omega arith)))
+
+  pub gather-missing : (n k lost : ℕ) → 1 ≤ k → k ≤ lost → lost < k + n
+      → ((s : ℕ) → k ≤ s → s < lost → sequenceIn (slotAt N P log (slotOf N s)) ≡ s)
+      → (sequenceIn (slotAt N P log (slotOf N lost)) ≡ lost → ⊥) → gather N slots n k ≡ missing lost
+  unfolding gather
+  gather-missing zero k lost h l m f g = absurd (omega arith)
+  gather-missing (suc n) k lost h l m f g =
+      elim (ℕ-discrete k lost) [
+        | yes q ↦ lacks (getD slots (slotOf N k) unused) (λ e. g (subst (λ (s : ℕ). sequenceIn (slotAt N P log (slotOf N s)) ≡ s) q (ap sequenceIn (sym (at-slot k)) ∙ e)))
+            ∙ ap missing q
+        | no q ↦
+            ap (λ (x : Slot). blockIn k x (gather N slots n (suc k))) (stands-valid k h (f k (omega arith) (omega arith)))
+            ∙ ap (λ (b : Bool). cond b (withBlock (blockOf log k) (gather N slots n (suc k))) (missing k)) (eq-eqb k k refl)
+            ∙ ap (withBlock (blockOf log k))
+            (gather-missing n (suc k) lost (omega arith) (omega arith) (omega arith) (λ s x y. f s (omega arith) y) g)
+      ]
+    where
+      lacks : (x : Slot) → (sequenceIn x ≡ k → ⊥) → blockIn k x (gather N slots n (suc k)) ≡ missing k
+      lacks unused e = refl
+      lacks damaged e = refl
+      lacks (valid found block) e = ap (λ (b : Bool). cond b (withBlock block (gather N slots n (suc k))) (missing k)) (ne-eqb found k e)
+
+  -- ---- the four findings
+
+  module _ (F : ℕ) where
+    from-gathered : (g : Gathered) → gathered N slots ≡ g → finding N P F log home ≡ walkGathered N F (pageAt home) slots g
+    unfolding finding
+    from-gathered g e = ap (walkGathered N F (pageAt home) slots) e
+
+    -- all slots unused
+    pub finds-fresh : allUnused slots ≡ true → finding N P F log home ≡ walkFrom N F (pageAt home) 1 1 (blocksFrom log 1 0) (startWith 0)
+    unfolding gathered walkFrom blocksFrom
+    finds-fresh e =
+        from-gathered (blocks []) (ap (λ (b : Bool). cond b (blocks []) (cond (eqb (newest slots) 0) (missing 0) (gather N slots (newest slots + 1 - keepOf N slots) (keepOf N slots)))) e)
+        ∙ ap (λ (m : ℕ). walkFrom N F (pageAt home) (m + 1) (keepOf N slots) [] (startWith 0)) (unused-newest slots e)
+
+    -- no valid slot but a damaged one
+    pub finds-damaged : allUnused slots ≡ false → newest slots ≡ 0 → finding N P F log home ≡ stops 7 0
+    unfolding gathered
+    finds-damaged e z =
+        from-gathered (missing 0)
+        (ap (λ (b : Bool). cond b (blocks []) (cond (eqb (newest slots) 0) (missing 0) (gather N slots (newest slots + 1 - keepOf N slots) (keepOf N slots)))) e
+        ∙ ap (λ (b : Bool). cond b (missing 0) (gather N slots (newest slots + 1 - keepOf N slots) (keepOf N slots))) (eq-eqb _ _ z))
+
+    module _ (m k : ℕ) (is-newest : m ≡ newest slots) (is-keep : k ≡ headerOf log m .«keep_from») (n : m ≡ 0 → ⊥) where
+      not-zero : newest slots ≡ 0 → ⊥
+      not-zero z = n (is-newest ∙ z)
+
+      k-is : keepOf N slots ≡ k
+      k-is = keep-is not-zero ∙ ap (λ (x : ℕ). headerOf log x .«keep_from») (sym is-newest) ∙ sym is-keep
+
+      gathers : gathered N slots ≡ gather N slots (m + 1 - k) k
+      unfolding gathered
+      gathers =
+          ap (λ (b : Bool). cond b (blocks []) (cond (eqb (newest slots) 0) (missing 0) (gather N slots (newest slots + 1 - keepOf N slots) (keepOf N slots)))) used
+          ∙ ap (λ (b : Bool). cond b (missing 0) (gather N slots (newest slots + 1 - keepOf N slots) (keepOf N slots))) (ne-eqb _ _ not-zero)
+          ∙ ap (λ (x : ℕ). gather N slots (x + 1 - keepOf N slots) (keepOf N slots)) (sym is-newest)
+          ∙ ap (λ (x : ℕ). gather N slots (m + 1 - x) x) k-is
+        where
+          used : allUnused slots ≡ false
+          used = Rattle.block.proofs.Tests.not-passed (allUnused slots) (λ e. not-zero (unused-newest slots e))
+
+      -- a block is missing
+      pub finds-missing : (lost : ℕ) → 1 ≤ k → k ≤ lost → lost < k + (m + 1 - k)
+          → ((s : ℕ) → k ≤ s → s < lost → sequenceIn (slotAt N P log (slotOf N s)) ≡ s)
+          → (sequenceIn (slotAt N P log (slotOf N lost)) ≡ lost → ⊥) → finding N P F log home ≡ stops 7 lost
+      finds-missing lost h l x f g = from-gathered (missing lost) (gathers ∙ gather-missing (m + 1 - k) k lost h l x f g)
+
+      -- all are in their slots: the walk over them
+      pub finds-blocks : 1 ≤ k → k ≤ m → ((s : ℕ) → k ≤ s → s ≤ m → sequenceIn (slotAt N P log (slotOf N s)) ≡ s)
+          → finding N P F log home ≡ walkFrom N F (pageAt home) (m + 1) k (blocksFrom log k (m + 1 - k)) (startWith (headerOf log k .ticket))
+      finds-blocks h l f =
+          from-gathered (blocks (blocksFrom log k (m + 1 - k))) (gathers ∙ gather-all (m + 1 - k) k h (λ s x y. f s x (omega arith)))
+          ∙ ap (λ (x : ℕ). walkFrom N F (pageAt home) (x + 1) (keepOf N slots) (blocksFrom log k (m + 1 - k)) (startWith (believed (blocksFrom log k (m + 1 - k))))) (sym is-newest)
+          ∙ ap (λ (x : ℕ). walkFrom N F (pageAt home) (m + 1) x (blocksFrom log k (m + 1 - k)) (startWith (believed (blocksFrom log k (m + 1 - k))))) k-is
+          ∙ ap (λ (x : ℕ). walkFrom N F (pageAt home) (m + 1) k (blocksFrom log k (m + 1 - k)) (startWith x)) (first (m + 1 - k) (omega arith))
+        where
+          first : (c : ℕ) → 1 ≤ c → believed (blocksFrom log k c) ≡ headerOf log k .ticket
+          first zero z = absurd (omega arith)
+          first (suc c) z = unfold blocksFrom in refl

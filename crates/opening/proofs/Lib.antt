@@ -1,0 +1,4 @@
+pub mod Gathering
+pub mod Ending
+pub mod Reading
+pub mod Answering

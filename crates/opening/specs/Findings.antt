@@ -1,0 +1,37 @@
+-- What the code finds in a log, beside the paper's finding.
+-- Assumes nothing.
+use Prim.Native.Nat.{ℕ, _+_, _<_}
+use mathlib.Core.Path.{_≡_}
+use mathlib.Core.Bool.{true}
+use mathlib.Core.List.{List}
+use lib.ListN.{length}
+use Rattle.block.specs.Sizes.{sequenceEnd}
+use Rattle.promises.specs.Areas.{slotsIn}
+use Rattle.promises.specs.Walk.{Walk as PaperWalk, Finding, stops, stands}
+use Rattle.table.specs.Table.{emptyTable}
+use Rattle.recovery.specs.declared.Walk.{Walk}
+use Rattle.recovery.specs.Walking.{Stands, spanFits}
+use Rattle.opening.specs.declared.Found.{Found}
+
+-- where a walk starts, with so many frames and the ticket that is believed
+abbrev pub startOf : ℕ → ℕ → Walk
+startOf count ticket = record { refusal = 0; place = 0; ticket = ticket; start = 0; count = 0; table = emptyTable count }
+
+-- a block is missing at this place
+abbrev pub stoppedAt : ℕ → ℕ → Found
+stoppedAt count place = record { newest = 0; walk = record { refusal = 7; place = place; ticket = 0; start = 0; count = 0; table = emptyTable count } }
+
+-- the walk ended where the paper's does, and what soundness asks for holds of it
+pub record Accepts (log home : List ℕ) (found : Finding) (result : Found) (frames′ : List ℕ) : Type 0 where
+  pub paper : PaperWalk
+  pub foundIs : found ≡ stands (result .newest + 1) paper
+  pub standsFor : Stands log home (result .newest + 1) (result .walk) frames′ paper
+  pub ticketBelow : result .walk .ticket < result .newest + 1
+  pub spanWithin : spanFits (result .walk .table) (slotsIn (length log)) (result .newest + 1) ≡ true
+  pub newestBelow : result .newest < sequenceEnd
+
+-- a refusal is the paper's, with its place; otherwise the walk stands
+pub record Finds (log home : List ℕ) (count : ℕ) (found : Finding) (result : Found) (frames′ : List ℕ) : Type 0 where
+  pub countIs : result .walk .table .count ≡ count
+  pub refused : (result .walk .refusal ≡ 0 → ⊥) → found ≡ stops (result .walk .refusal) (result .walk .place)
+  pub accepted : result .walk .refusal ≡ 0 → Accepts log home found result frames′

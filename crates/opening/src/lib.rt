@@ -1,0 +1,205 @@
+// Open: the lent lengths, then the log, judged and walked over, then the answer. It never writes log, home or staging.
+use block::Block;
+use promises::Cleaning;
+use promises::Dirty;
+use promises::OpenOutcome;
+use promises::Opened;
+use promises::Refusal;
+use promises::Staged;
+use promises::State;
+use recovery::Walk;
+ghost use mathlib.Core.Path.{_≡_};
+ghost use Prim.Native.Nat.{ℕ, _+_, _-_, _*_, _≤_, _<_};
+ghost use lib.ListN.{length};
+ghost use Rattle.block.specs.Sizes.{blockSize, pageSize, sequenceEnd};
+ghost use Rattle.promises.specs.Areas.{slotsIn, pagesIn, framesIn, pageAt};
+ghost use Rattle.promises.specs.Answers.{numberOf, openRefusalIn, placeIn};
+ghost use Rattle.promises.specs.Contents.{allZeroState};
+ghost use Rattle.promises.specs.Walk.{walkFrom, startWith, finding};
+ghost use Rattle.promises.specs.Open.{lengthsFit, Opens};
+ghost use Rattle.recovery.specs.Log.{blocksFrom, Legal};
+ghost use Rattle.opening.specs.Findings.{startOf, stoppedAt, Finds};
+ghost use Rattle.opening.specs.States.{idleState};
+
+// What was found in a log: where the walk ended, and the newest sequence.
+pub struct Found {
+    pub newest: u64,
+    pub walk: Walk,
+}
+
+// Whether the lent lengths are whole counts in range, and frames and staging are of one count.
+fn lengths_fit(log: usize, home: usize, frames: usize, staging: usize) -> bool
+    ensures { λ r. ⌜ r ≡ lengthsFit log home frames staging ⌝ }
+{
+    let slots = log / Block::SIZE;
+    let pages = home / Block::PAGE;
+    let count = frames / Block::PAGE;
+    let log_fits = (slots * Block::SIZE == log) & ((8 <= slots) & (slots <= 1024));
+    let home_fits = (pages * Block::PAGE == home) & ((1 <= pages) & (pages <= 4096));
+    let frames_fit = (count * Block::PAGE == frames)
+        & ((1 <= count) & (count <= 32))
+        & (staging == count * Block::NEW_BYTES);
+    log_fits & home_fits & frames_fit
+}
+
+// Where a walk starts, with so many frames and the ticket that is believed.
+fn started(count: usize, ticket: u64) -> Walk
+    ensures { λ r. ⌜ r ≡ startOf count ticket ⌝ }
+{
+    Walk {
+        refusal: 0,
+        place: 0,
+        ticket,
+        start: 0,
+        count: 0,
+        table: table::empty(count),
+    }
+}
+
+// A block is missing at this place: refusal 7.
+fn stopped(count: usize, place: u64) -> Found
+    ensures { λ r. ⌜ r ≡ stoppedAt count place ⌝ }
+{
+    Found {
+        newest: 0,
+        walk: Walk {
+            refusal: 7,
+            place,
+            ticket: 0,
+            start: 0,
+            count: 0,
+            table: table::empty(count),
+        },
+    }
+}
+
+// The walk over the blocks from first to last, which are all in their slots, and the last test.
+fn walked(log: &[u8], home: &[u8], frames: &mut [u8], first: u64, last: u64, ticket: u64) -> Found
+    requires { ⌜ (slotsIn (length (now log)) ≤ 1024) × (blockSize ≤ length (now log)) × (pagesIn (length (now home)) ≤ 4096) × (length (now frames) ≡ framesIn (length (now frames)) * pageSize) × (framesIn (length (now frames)) ≤ 32) ⌝ }
+    requires { ⌜ (first ≤ last + 1) × (last < sequenceEnd) × (ticket < first) × ((s : ℕ) → first ≤ s → s ≤ last → Legal (now log) (now home) s) ⌝ }
+    ensures { λ r. ⌜ Finds (now (log .entry)) (now (home .entry)) (framesIn (length (now (frames .entry)))) (walkFrom (slotsIn (length (now (log .entry)))) (framesIn (length (now (frames .entry)))) (pageAt (now (home .entry))) (last + 1) first (blocksFrom (now (log .entry)) first (last + 1 - first)) (startWith ticket)) r (now (frames .exit)) ⌝ }
+{
+    let slots = log.len() / Block::SIZE;
+    let start = started(frames.len() / Block::PAGE, ticket);
+    let walk = recovery::walk_all(start, log, home, frames, first, last);
+    Found {
+        newest: last,
+        walk: recovery::last_test(walk, slots, last),
+    }
+}
+
+// What a log of right length holds, with room for each slot's sequence.
+fn find(log: &[u8], home: &[u8], frames: &mut [u8], sequences: &mut [u64]) -> Found
+    requires { ⌜ (length (now log) ≡ length (now sequences) * blockSize) × (8 ≤ length (now sequences)) × (length (now sequences) ≤ 1024) × (pagesIn (length (now home)) ≤ 4096) × (length (now frames) ≡ framesIn (length (now frames)) * pageSize) × (framesIn (length (now frames)) ≤ 32) ⌝ }
+    ensures { λ r. ⌜ Finds (now (log .entry)) (now (home .entry)) (framesIn (length (now (frames .entry)))) (finding (slotsIn (length (now (log .entry)))) (pagesIn (length (now (home .entry)))) (framesIn (length (now (frames .entry)))) (now (log .entry)) (now (home .entry))) r (now (frames .exit)) ⌝ }
+{
+    let count = frames.len() / Block::PAGE;
+    let scan = recovery::judge_all(log, home.len() / Block::PAGE, sequences);
+    let newest = scan.newest;
+    if newest == 0 {
+        if !scan.unused {
+            return stopped(count, 0);
+        }
+        return walked(log, home, frames, 1, 0, 0);
+    }
+    let last = recovery::header(log, newest);
+    let keep = last.keep_from;
+    let lost = recovery::missing(sequences, keep, newest);
+    if lost <= newest {
+        return stopped(count, lost);
+    }
+    let first = recovery::header(log, keep);
+    walked(log, home, frames, keep, newest, first.ticket)
+}
+
+// What a log of right length holds.
+fn read_log(log: &[u8], home: &[u8], frames: &mut [u8]) -> Found
+    requires { ⌜ (length (now log) ≡ slotsIn (length (now log)) * blockSize) × (8 ≤ slotsIn (length (now log))) × (slotsIn (length (now log)) ≤ 1024) × (pagesIn (length (now home)) ≤ 4096) × (length (now frames) ≡ framesIn (length (now frames)) * pageSize) × (framesIn (length (now frames)) ≤ 32) ⌝ }
+    ensures { λ r. ⌜ Finds (now (log .entry)) (now (home .entry)) (framesIn (length (now (frames .entry)))) (finding (slotsIn (length (now (log .entry)))) (pagesIn (length (now (home .entry)))) (framesIn (length (now (frames .entry)))) (now (log .entry)) (now (home .entry))) r (now (frames .exit)) ⌝ }
+{
+    let slots = log.len() / Block::SIZE;
+    let mut sequences = [0; 1024];
+    find(log, home, frames, &mut sequences[..slots])
+}
+
+// A state with nothing queued, nothing open and no cleaning.
+fn idle(
+    pages: usize,
+    slots: usize,
+    frames: usize,
+    next: u64,
+    ticket: u64,
+    dirty: [Dirty; 32],
+) -> State
+    ensures { λ r. ⌜ r ≡ idleState pages slots frames next ticket dirty ⌝ }
+{
+    State {
+        pages,
+        slots,
+        frames,
+        next,
+        ticket,
+        dirty,
+        staged: [Staged {
+            page: 0,
+            offset: 0,
+            length: 0,
+            area: 0,
+        }; 32],
+        groups: [0; 32],
+        queued: 0,
+        stored: 0,
+        reserved: 0,
+        described: 0,
+        cleaning: Cleaning::Idle,
+    }
+}
+
+// The refusal of a walk's number.
+fn refusal_of(number: u64) -> Refusal
+    requires { ⌜ (7 ≤ number) × (number ≤ 9) ⌝ }
+    ensures { λ r. ⌜ numberOf r ≡ number ⌝ }
+{
+    if number == 7 {
+        return Refusal::LogDamaged;
+    }
+    if number == 8 {
+        return Refusal::LogOutOfOrder;
+    }
+    Refusal::TooFewFrames
+}
+
+// A refused Open: the all-zero state.
+fn refused(refusal: Refusal, place: u64) -> OpenOutcome
+    ensures { λ r. ⌜ (openRefusalIn (r .answer) ≡ numberOf refusal) × (placeIn (r .answer) ≡ place) × (r .state ≡ allZeroState) ⌝ }
+{
+    let none = [Dirty { page: 0, first: 0 }; 32];
+    OpenOutcome {
+        state: idle(0, 0, 0, 0, 0, none),
+        answer: Opened::Refused(refusal, place),
+    }
+}
+
+// Open: refusals 1, 7, 8 and 9; or a sound state, with each dirty page's committed bytes in a frame.
+pub fn open(log: &[u8], home: &[u8], frames: &mut [u8], staging: &[u8]) -> OpenOutcome
+    ensures { λ r. ⌜ Opens (now (log .entry)) (now (home .entry)) (now (frames .entry)) (now (staging .entry)) r (now (frames .exit)) ⌝ }
+{
+    if !lengths_fit(log.len(), home.len(), frames.len(), staging.len()) {
+        return refused(Refusal::WrongLength, 0);
+    }
+    let found = read_log(log, home, frames);
+    let walk = found.walk;
+    if walk.refusal != 0 {
+        area::clear(frames);
+        return refused(refusal_of(walk.refusal), walk.place);
+    }
+    let table = walk.table;
+    let dirty = table.dirty;
+    let pages = home.len() / Block::PAGE;
+    let slots = log.len() / Block::SIZE;
+    let count = frames.len() / Block::PAGE;
+    OpenOutcome {
+        state: idle(pages, slots, count, found.newest + 1, walk.ticket, dirty),
+        answer: Opened::Settled(walk.ticket),
+    }
+}

@@ -1,0 +1,5 @@
+pub mod Filled
+pub mod Spelled
+pub mod Parsed
+pub mod Samples
+pub mod WholeLine
