@@ -36,6 +36,7 @@ use Rattle.promises.specs.Events.{
   accepts,
   Step,
   Lent,
+  leftBy,
   fallen,
 }
 
@@ -92,7 +93,7 @@ pub data Run (by : Steps) (sizes : Sizes) : World → Book → Type 0 where
   -- a cut at a call: log and home as before it or after it, its block old or new
   cut : {world world″ : World} {book book″ : Book} (call : Call) (reply : Reply) (world′ : World) (stored : Bool) (frames staging : List ℕ)
       → Run by sizes world book → Lent sizes call → by .steps call world reply world′
-      → world″ ≡ fallen (cond stored world′ world) frames staging → book″ ≡ cutAt call (both stored (accepts reply)) book
+      → world″ ≡ fallen (leftBy stored world world′) frames staging → book″ ≡ cutAt call (both stored (accepts reply)) book
       → Run by sizes world″ book″
   -- a cut at a call that is lent other areas, and would be refused with 1 or 2
   cutUnfit : {world world″ : World} {book book″ : Book} (call : Call) (reply : Reply) (lent lent′ : World) (frames staging : List ℕ)

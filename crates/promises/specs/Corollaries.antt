@@ -28,6 +28,7 @@ use Rattle.promises.specs.Events.{
   says,
   accepts,
   Lent,
+  leftBy,
   fallen,
 }
 use Rattle.promises.specs.Claim.{
@@ -63,7 +64,7 @@ pub data Begins {by : Steps} {sizes : Sizes} {world : World} {book : Book} (run 
       (bookIs : book₂ ≡ entered call false book₁) → Begins run after book₂ (unfit call reply lent lent′ more same step refused worldIs bookIs)
   byCut : {before after : World} {book₁ book₂ : Book} {more : Run by sizes before book₁} → Begins run before book₁ more → (call : Call) (reply : Reply)
       (world′ : World) (stored : Bool) (frames staging : List ℕ) (lent : Lent sizes call) (step : by .steps call before reply world′)
-      (worldIs : after ≡ fallen (cond stored world′ before) frames staging) (bookIs : book₂ ≡ cutAt call (both stored (accepts reply)) book₁)
+      (worldIs : after ≡ fallen (leftBy stored before world′) frames staging) (bookIs : book₂ ≡ cutAt call (both stored (accepts reply)) book₁)
       → Begins run after book₂ (cut call reply world′ stored frames staging more lent step worldIs bookIs)
   byCutUnfit : {before after : World} {book₁ book₂ : Book} {more : Run by sizes before book₁} → Begins run before book₁ more → (call : Call) (reply : Reply)
       (lent lent′ : World) (frames staging : List ℕ) (same : lent .state ≡ before .state) (step : by .steps call lent reply lent′)
@@ -126,7 +127,7 @@ NoTrace by = (sizes : Sizes) → InRange sizes → (world : World) (book : Book)
     → (call : Call) (reply : Reply) (world′ : World) (stored : Bool) (frames staging : List ℕ) → Lent sizes call → by .steps call world reply world′
     → commitsOf call (both stored (accepts reply)) book ≡ []
     → (frames′ staging′ : List ℕ) (opened : Reply) (after : World) → Lent sizes (opening frames′ staging′)
-    → by .steps (opening frames′ staging′) (fallen (cond stored world′ world) frames staging) opened after
+    → by .steps (opening frames′ staging′) (fallen (leftBy stored world world′) frames staging) opened after
     → (page : ℕ) → page < sizes .pages → (answer : Reply) (last : World) → by .steps (reading page) after answer last → answer ≡ shows (book .pages page)
 
 -- ---- two openings in a row show the same

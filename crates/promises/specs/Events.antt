@@ -187,6 +187,10 @@ Lent sizes cleanStep = Unit {0}
 Lent sizes (reading page) = Unit {0}
 Lent sizes (settling ticket) = Unit {0}
 
+-- what a cut at a call leaves of log and home: as before the call, or as after it
+abbrev pub leftBy : Bool → World → World → World
+leftBy stored before after = cond stored after before
+
 -- after a cut: log and home are left, the state is all-zero, frames and staging hold anything
 abbrev pub fallen : World → List ℕ → List ℕ → World
 fallen world frames staging = record { state = allZeroState; log = world .log; home = world .home; frames = frames; staging = staging }
