@@ -1,36 +1,31 @@
 -- What Open answers is what it promises: a refusal with its place, or a sound state.
 -- Assumes nothing.
 use mathlib.Core.Path.{_≡_, refl, sym, ap, _∙_, subst}
-use mathlib.Core.Bool.{Bool, true, false, cond, not, _&&_}
-use mathlib.Core.List.{List, [], _∷_, map}
-use Prim.Native.Nat.{ℕ, _+_, _-_, _*_, _/_, _^_, _≤_, _<_}
+use mathlib.Core.Bool.{Bool, true, false, cond}
+use mathlib.Core.List.{List, [], _∷_}
+use Prim.Native.Nat.{ℕ, _+_, _-_, _*_, _^_, _≤_}
 use native.Mathlib.Omega.{arith}
-use lib.Dec.{eqb, leb, ltb}
-use lib.ListN.{length, take, drop, replicate}
-use borrow.Author.Tests.{leb-true, eq-eqb, ne-eqb}
-use Rattle.block.proofs.Tests.{tests, by-cases, never-both}
+use lib.ListN.{length, drop, replicate}
+use borrow.Author.Tests.{leb-true, ne-eqb}
+use Rattle.block.proofs.Tests.{tests}
 use Rattle.promises.specs.declared.State.{State}
-use Rattle.promises.specs.declared.Dirty.{Dirty}
-use Rattle.promises.specs.declared.Cleaning.the-variants.{Idle}
-use Rattle.promises.specs.declared.Opened.{Opened}
-use Rattle.promises.specs.declared.Opened.the-variants.{Refused as OpenRefused, Settled}
+use Rattle.promises.specs.declared.Opened.the-variants.{Settled}
 use Rattle.promises.specs.declared.OpenOutcome.{OpenOutcome}
 use Rattle.promises.specs.Areas.{pageAt, slotsIn, pagesIn, framesIn}
 use Rattle.promises.specs.Answers.{openRefusalIn, placeIn}
 use Rattle.promises.specs.Blocks.{slotsOf}
-use Rattle.promises.specs.Contents.{Contents, contentsOf, dirtyOf, allZeroState, grouped}
+use Rattle.promises.specs.Contents.{contentsOf, dirtyOf, allZeroState, grouped}
 use Rattle.promises.specs.DirtyPages.{DirtyPage, lookUp}
-use Rattle.promises.specs.Newest.{Gathered, missing, blocks, gathered, newest, keepOf}
+use Rattle.promises.specs.Newest.{Gathered, missing, blocks, gathered, newest}
 use Rattle.promises.specs.Sums.{firstGroups, smallest}
-use Rattle.promises.specs.Sound.{sound, allBelow, distinct, dirtyNumbers}
-use Rattle.promises.specs.Walk.{Walk as PaperWalk, Finding, stops, stands, finding, walkGathered, startWith, believed, walkFrom}
-use Rattle.promises.specs.Open.{lengthsFit, openFinding, framesAfter, opened, OpenStops, OpenStands, Opens}
-use Rattle.promises.proofs.Soundness.{Sound, of-sound, and-both}
+use Rattle.promises.specs.Sound.{sound, allBelow, dirtyNumbers}
+use Rattle.promises.specs.Walk.{Walk as PaperWalk, stops, stands, finding, walkGathered}
+use Rattle.promises.specs.Open.{lengthsFit, openFinding, opened, OpenStops, OpenStands, Opens}
+use Rattle.promises.proofs.Soundness.{Sound, of-sound}
 use Rattle.table.specs.Table.{Holds, Each}
 use Rattle.table.proofs.Entries.{within-most}
 use Rattle.table.proofs.Holding.{held-below, Below}
-use Rattle.recovery.specs.declared.Walk.{Walk}
-use Rattle.recovery.specs.Walking.{Early, Stands, spanFits}
+use Rattle.recovery.specs.Walking.{Early}
 use Rattle.opening.specs.declared.Found.{Found}
 use Rattle.opening.specs.Findings.{Accepts, Finds}
 use Rattle.opening.specs.States.{idleState}

@@ -3,12 +3,11 @@
 use mathlib.Core.Path.{_≡_, refl, sym, ap, _∙_, subst}
 use mathlib.Core.Bool.{Bool, true, false, cond}
 use mathlib.Core.List.{List, [], _∷_}
-use Prim.Native.Nat.{ℕ, zero, suc, _+_, _-_, _≤_, _<_}
+use Prim.Native.Nat.{ℕ, suc, _+_, _-_, _≤_, _<_}
 use native.Mathlib.Omega.{arith}
 use native.Mathlib.Decide.{ℕ-discrete}
-use lib.Dec.{eqb, leb}
+use lib.Dec.{leb}
 use lib.ListN.{length}
-use borrow.Author.Tests.{eq-eqb, ne-eqb}
 use Rattle.block.proofs.Tests.{by-cases}
 use Rattle.block.specs.Sizes.{sequenceEnd}
 use Rattle.promises.specs.Areas.{pageAt, slotsIn}
@@ -20,7 +19,6 @@ use Rattle.recovery.specs.declared.Walk.{Walk}
 use Rattle.recovery.specs.Log.{updatesFrom, blocksFrom}
 use Rattle.recovery.specs.Walking.{refusedAt, spanFits, tested, Ready, Stands, Leads, Walks}
 use Rattle.recovery.proofs.Changing.{tested-not, tested-by}
-use Rattle.opening.specs.declared.Found.{Found}
 use Rattle.opening.specs.Findings.{startOf, Finds}
 
 -- ---- the start

@@ -3,7 +3,7 @@
 use mathlib.Core.Path.{_≡_, refl, sym, ap, _∙_, subst}
 use mathlib.Core.Bool.{Bool, true, false, cond, _&&_}
 use mathlib.Core.List.{List, [], _∷_}
-use Prim.Native.Nat.{ℕ, zero, suc, _+_, _-_, _*_, _≤_, _<_, max}
+use Prim.Native.Nat.{ℕ, zero, suc, _+_, _-_, _≤_, _<_}
 use native.Mathlib.Omega.{arith}
 use native.Mathlib.Nat.{mod-lt}
 use native.Mathlib.Decide.{ℕ-discrete}
@@ -15,30 +15,14 @@ use Rattle.block.specs.Legal.{legal, slotOf}
 use Rattle.block.specs.Layout.{layout}
 use Rattle.block.specs.Kind.{lengthOf}
 use Rattle.block.specs.Slot.{allZero, same, blockAt, newBytesAt, valid as validBytes, judged, pickJudged}
-use Rattle.block.specs.declared.Block.{Block}
 use Rattle.block.specs.declared.Judged.the-variants.{Unused, Damaged, Valid}
-use Rattle.block.proofs.Facts.{facts, Facts}
 use Rattle.promises.specs.Areas.{pageAt, slotBytes, slotsIn, pagesIn}
 use Rattle.promises.specs.Blocks.{LogBlock, Slot, unused, damaged, valid, kindIn, slotIn, slotAt, slotsFrom, slotsOf}
-use Rattle.promises.specs.Newest.{
-  sequenceIn,
-  newest,
-  keepIn,
-  keepOf,
-  Gathered,
-  missing,
-  blocks,
-  withBlock,
-  blockIn,
-  gather,
-  isUnused,
-  allUnused,
-  gathered,
-}
-use Rattle.promises.specs.Walk.{Finding, stops, walkFrom, walkGathered, startWith, believed, finding}
+use Rattle.promises.specs.Newest.{sequenceIn, newest, keepIn, keepOf, Gathered, missing, blocks, withBlock, blockIn, gather, allUnused, gathered}
+use Rattle.promises.specs.Walk.{stops, walkFrom, walkGathered, startWith, believed, finding}
 use Rattle.promises.proofs.Soundness.{and-both}
 use Rattle.promises.proofs.Slots.{get-slot}
-use Rattle.recovery.specs.Log.{bytesOf, headerOf, blockOf, blocksFrom, Legal}
+use Rattle.recovery.specs.Log.{headerOf, blockOf, blocksFrom, Legal}
 
 -- ---- a slot whose sequence is not 0 holds the block that its header tells
 

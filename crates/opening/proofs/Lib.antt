@@ -2,3 +2,4 @@ pub mod Gathering
 pub mod Ending
 pub mod Reading
 pub mod Answering
+pub mod Alike

@@ -1,9 +1,9 @@
 -- What the scan, the search for a missing block and the walk find is what the paper finds.
 -- Assumes nothing.
 use mathlib.Core.Path.{_≡_, refl, sym, ap, _∙_, subst}
-use mathlib.Core.Bool.{Bool, true, false}
+use mathlib.Core.Bool.{true, false}
 use mathlib.Core.List.{List}
-use Prim.Native.Nat.{ℕ, _+_, _-_, _*_, _/_, _^_, _≤_, _<_}
+use Prim.Native.Nat.{ℕ, _+_, _-_, _*_, _^_, _≤_, _<_}
 use native.Mathlib.Omega.{arith}
 use native.Mathlib.Nat.{mod-lt}
 use lib.ListN.{length, getD}
@@ -12,13 +12,12 @@ use Rattle.block.specs.Legal.{slotOf}
 use Rattle.block.specs.declared.Block.{Block}
 use Rattle.block.proofs.Facts.{facts, Facts}
 use Rattle.promises.specs.Areas.{pageAt, slotsIn, pagesIn}
-use Rattle.promises.specs.Blocks.{slotAt, slotsOf}
+use Rattle.promises.specs.Blocks.{slotAt}
 use Rattle.promises.specs.Newest.{sequenceIn, newest}
 use Rattle.promises.specs.Walk.{Finding, stops, walkFrom, startWith, finding}
 use Rattle.recovery.specs.declared.Scan.{Scan}
 use Rattle.recovery.specs.Log.{headerOf, blocksFrom, Legal}
 use Rattle.recovery.specs.Slots.{standing, Scanned, Lowest}
-use Rattle.recovery.proofs.Turning.{legal-numbers}
 use Rattle.opening.specs.declared.Found.{Found}
 use Rattle.opening.specs.Findings.{stoppedAt, Finds}
 use Rattle.opening.proofs.Gathering.{stands-legal, newest-stands, finds-fresh, finds-damaged, finds-missing, finds-blocks}

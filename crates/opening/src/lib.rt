@@ -10,7 +10,9 @@ use promises::State;
 use recovery::Walk;
 ghost use mathlib.Core.Path.{_≡_};
 ghost use Prim.Native.Nat.{ℕ, _+_, _-_, _*_, _≤_, _<_};
-ghost use lib.ListN.{length};
+ghost use mathlib.Core.Bool.{cond};
+ghost use lib.Dec.{eqb};
+ghost use lib.ListN.{length, replicate};
 ghost use Rattle.block.specs.Sizes.{blockSize, pageSize, sequenceEnd};
 ghost use Rattle.promises.specs.Areas.{slotsIn, pagesIn, framesIn, pageAt};
 ghost use Rattle.promises.specs.Answers.{numberOf, openRefusalIn, placeIn};
@@ -180,6 +182,15 @@ fn refused(refusal: Refusal, place: u64) -> OpenOutcome
     }
 }
 
+// After a refusal of the log the frames are zero.
+fn clear_refused(frames: &mut [u8], refusal: u64)
+    ensures { λ _. ⌜ now (frames .exit) ≡ cond (eqb refusal 0) (now (frames .entry)) (replicate (length (now (frames .entry))) 0) ⌝ }
+{
+    if refusal != 0 {
+        area::clear(frames);
+    }
+}
+
 // Open: refusals 1, 7, 8 and 9; or a sound state, with each dirty page's committed bytes in a frame.
 pub fn open(log: &[u8], home: &[u8], frames: &mut [u8], staging: &[u8]) -> OpenOutcome
     ensures { λ r. ⌜ Opens (now (log .entry)) (now (home .entry)) (now (frames .entry)) (now (staging .entry)) r (now (frames .exit)) ⌝ }
@@ -189,8 +200,8 @@ pub fn open(log: &[u8], home: &[u8], frames: &mut [u8], staging: &[u8]) -> OpenO
     }
     let found = read_log(log, home, frames);
     let walk = found.walk;
+    clear_refused(frames, walk.refusal);
     if walk.refusal != 0 {
-        area::clear(frames);
         return refused(refusal_of(walk.refusal), walk.place);
     }
     let table = walk.table;

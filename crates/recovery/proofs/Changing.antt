@@ -1,15 +1,12 @@
 -- What the code's tests make of a walk: an update, a clean, a commit and the last test, branch by branch.
 -- Assumes nothing.
-use mathlib.Core.Path.{_≡_, refl, sym, ap, _∙_, subst}
-use mathlib.Core.Bool.{Bool, true, false, cond, not, _&&_, _||_}
+use mathlib.Core.Path.{_≡_, sym, ap, _∙_, subst}
+use mathlib.Core.Bool.{Bool, true, false, cond, not}
 use mathlib.Core.List.{List}
-use Prim.Native.Nat.{ℕ, _+_, _-_, _≤_, _<_}
-use native.Mathlib.Omega.{arith}
-use lib.Dec.{eqb, ltb, leb}
-use lib.ListN.{length}
+use Prim.Native.Nat.{ℕ, _+_}
+use lib.Dec.{eqb}
 use borrow.Author.Tests.{eq-eqb, ne-eqb, eqb-true, eqb-false, not-true, not-false}
 use Rattle.block.proofs.Tests.{never-both}
-use Rattle.promises.specs.Sums.{firstGroups, smallest}
 use Rattle.table.specs.declared.Table.{Table}
 use Rattle.table.specs.Table.{AppliesAll, Drops}
 use Rattle.recovery.specs.declared.Walk.{Walk}

@@ -3,24 +3,23 @@
 use mathlib.Core.Path.{_≡_, refl, sym, ap, _∙_, subst}
 use mathlib.Core.Bool.{Bool, true, false, _&&_}
 use mathlib.Core.List.{List, [], _∷_}
-use Prim.Native.Nat.{ℕ, zero, suc, _+_, _-_, _*_, _/_, _%_, _≤_, _<_, max}
+use Prim.Native.Nat.{ℕ, suc, _+_, _-_, _*_, _/_, _%_, _≤_, _<_, max}
 use native.Mathlib.Omega.{arith}
 use native.Mathlib.Nat.{mod-lt}
 use native.Mathlib.Decide.{ℕ-discrete}
 use lib.ListN.{length, getD, set}
 use lib.Seq.{getD-set-same, getD-set-other}
 use Rattle.area.specs.Part.{part}
-use Rattle.area.proofs.Parts.{from-to, length-part}
+use Rattle.area.proofs.Parts.{length-part}
 use Rattle.block.specs.Slot.{judged, blockAt}
 use Rattle.block.specs.declared.Block.{Block}
 use Rattle.block.specs.declared.Kind.{Kind}
 use Rattle.block.specs.declared.Judged.{Judged}
 use Rattle.block.specs.declared.Judged.the-variants.{Unused, Damaged, Valid}
-use Rattle.promises.specs.Areas.{slotBytes, slotsIn}
-use Rattle.promises.specs.Blocks.{Slot, slotIn, slotAt, slotsFrom, slotsOf}
+use Rattle.promises.specs.Blocks.{Slot, slotIn, slotAt, slotsFrom}
 use Rattle.promises.specs.Newest.{sequenceIn, isUnused, newest, allUnused}
 use Rattle.recovery.specs.Log.{bytesOf, headerOf}
-use Rattle.recovery.specs.Slots.{sequenceOf, isEmpty, Sequences, standing, Lowest}
+use Rattle.recovery.specs.Slots.{sequenceOf, isEmpty, standing}
 
 -- ---- a slot lies in the log
 

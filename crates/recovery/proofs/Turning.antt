@@ -1,17 +1,16 @@
 -- One block walked over is the paper's turn: an update, a clean and a commit.
 -- Assumes nothing.
 use mathlib.Core.Path.{_≡_, refl, sym, ap, _∙_, subst}
-use mathlib.Core.Bool.{Bool, true, false, cond, not, _&&_, _||_}
+use mathlib.Core.Bool.{Bool, true, false, cond, _&&_, _||_}
 use mathlib.Core.List.{List, [], _∷_, _++_}
-use Prim.Native.Nat.{ℕ, zero, suc, _+_, _-_, _≤_, _<_}
+use Prim.Native.Nat.{ℕ, zero, suc, _+_, _≤_, _<_}
 use native.Mathlib.Omega.{arith}
 use lib.Dec.{eqb, ltb, leb}
 use lib.ListN.{length}
-use borrow.Author.Tests.{eq-eqb, ne-eqb, eqb-true, eqb-false, leb-true, leb-false, ltb-true}
+use borrow.Author.Tests.{eqb-true, leb-true, leb-false, ltb-true}
 use Rattle.block.specs.Legal.{legal, legalKind, legalNumbers}
-use Rattle.block.specs.declared.Block.{Block}
 use Rattle.block.specs.declared.Kind as format
-use Rattle.block.proofs.Tests.{by-cases, tests, and-iff, never-both}
+use Rattle.block.proofs.Tests.{by-cases, tests, never-both}
 use Rattle.block.proofs.Facts.{facts, Facts}
 use Rattle.promises.specs.Areas.{pageAt, slotsIn, pagesIn}
 use Rattle.promises.specs.Updates.{Update}

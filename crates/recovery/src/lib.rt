@@ -232,15 +232,15 @@ fn commit_fits(walk: Walk, updates: usize, ticket: u64) -> bool
 }
 
 // An update is walked over: a new index 1 voids a half group.
-fn walk_update(walk: Walk, s: u64, index: usize, ticket: u64) -> Walk
+fn walk_update(walk: Walk, sequence: u64, index: usize, ticket: u64) -> Walk
     requires { ⌜ walk .count < sequenceEnd ⌝ }
-    ensures { λ r. ⌜ r ≡ updated walk s index ticket ⌝ }
+    ensures { λ r. ⌜ r ≡ updated walk sequence index ticket ⌝ }
 {
     if !update_fits(walk, index, ticket) {
-        return refused(walk, 8, s);
+        return refused(walk, 8, sequence);
     }
     if index == 1 {
-        return half(walk, s, 1);
+        return half(walk, sequence, 1);
     }
     half(walk, walk.start, index)
 }

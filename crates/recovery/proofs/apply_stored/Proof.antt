@@ -1,40 +1,29 @@
-use Prim.Native.Nat.{ℕ, suc, _≤_, _<_, _-_, _+_, _*_, _/_, _%_}
-use mathlib.Core.Path.{_≡_, refl, sym, ap, _∙_, subst}
+-- `recovery::apply_stored` meets its contract: a legal update's place, and the other kinds ruled out.
+-- Assumes nothing.
+use Prim.Native.Nat.{ℕ}
+use mathlib.Core.Path.{ap, _∙_, subst}
 use mathlib.Core.List.{List}
 use lib.ListN.{length}
 use Rattle.area.proofs.Parts.{length-part-most}
 use Rattle.block.specs.Slot.{newBytesAt}
-use Rattle.block.specs.declared.Kind.{Kind}
 use Rattle.promises.specs.Areas.{pagesIn}
-use Rattle.promises.specs.Updates.{Update}
-use Rattle.table.specs.Table.{Applies}
-use Rattle.recovery.specs.Log.{bytesOf, headerOf, updateOf, Placed}
+use Rattle.recovery.specs.Log.{Placed}
 use Rattle.recovery.proofs.Scanning.{kind-is}
 use Rattle.recovery.proofs.Groups.{update-is, applies-same}
 use native.Mathlib.Omega.{arith}
 use borrow.Author.Needs.{needs}
 use Rattle.recovery.proofs.apply_stored.Statement.{statement}
 use Rattle.recovery.proofs.apply_stored.Tie as tie
-use Rattle.recovery.proofs.apply_stored.Reads as reads
-use Rattle.recovery.proofs.apply_stored.Lts as lts
-use Rattle.block.proofs.header.Reads as header-reads
-use Rattle.block.proofs.new_bytes.Reads as new-bytes-reads
-use Rattle.recovery.proofs.slot_of.Reads as slot-of-reads
-use Rattle.table.proofs.apply.Reads as apply-reads
 
--- src/lib.rt:134:9
 slot-of-requires : tie.Need-slot-of-requires
 slot-of-requires c κs = search needs
 
--- src/lib.rt:135:9
 header-requires : tie.Need-header-requires
 header-requires c κs = search needs
 
--- src/lib.rt:139:13
 enum-known-kind : tie.Need-enum-known-kind
 enum-known-kind c = search needs
 
--- src/lib.rt:144:17
 new-bytes-requires : tie.Need-new-bytes-requires
 new-bytes-requires c κs =
     let a = (c .before .before .before .before .before .before .before .before) .args in
@@ -42,7 +31,6 @@ new-bytes-requires c κs =
     let fits = subst (Placed (pagesIn (length (a .home .now)))) told ((c .before .before .before .before .before .before .before .before) .pre .5) in
     ((c .before .before .before .before) .slot-of .ensures .1, fits .1)
 
--- src/lib.rt:145:13
 apply-requires : tie.Need-apply-requires
 apply-requires c κs =
     let a = (c .before .before .before .before .before .before .before .before .before .before) .args in
@@ -51,19 +39,15 @@ apply-requires c κs =
     let few = length-part-most ((c .before .before .before .before .before .before) .slot-of .result .now) 36 ((c .before .before .before) .kind .given .0 .1 .1 .1 .0) in
     (omega arith, omega arith, omega arith, omega arith, omega (arith, few, ap length ((c .before) .new-bytes .ensures)), omega arith)
 
--- src/lib.rt:147:24
 enum-known-kind-2 : tie.Need-enum-known-kind-2
 enum-known-kind-2 c = search needs
 
--- src/lib.rt:148:23
 enum-known-kind-3 : tie.Need-enum-known-kind-3
 enum-known-kind-3 c = search needs
 
--- src/lib.rt:123:1
 same-length : tie.Need-same-length
 same-length c = search needs
 
--- src/lib.rt:123:1
 returns : tie.Need-returns
 returns c =
     let a = (c .before .before .before .before .before .before .before .before .before .before .before .before .before) .args in
@@ -76,7 +60,6 @@ returns c =
     ∙ update-is (a .log .now) (a .s) _ told)
     ((c .before .before) .apply .ensures)
 
--- src/lib.rt:123:1
 returns-2 : tie.Need-returns-2
 returns-2 c =
     let a = (c .before .before .before .before .before .before .before .before) .args in
@@ -84,7 +67,6 @@ returns-2 c =
     let fits = subst (Placed (pagesIn (length (a .home .now)))) told ((c .before .before .before .before .before .before .before .before) .pre .5) in
     absurd fits
 
--- src/lib.rt:123:1
 returns-3 : tie.Need-returns-3
 returns-3 c =
     let a = (c .before .before .before .before .before .before .before .before) .args in

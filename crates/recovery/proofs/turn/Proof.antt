@@ -1,64 +1,42 @@
-use Prim.Native.Nat.{ℕ, suc, _≤_, _<_, _-_, _+_, _*_, _/_, _%_}
-use mathlib.Core.Path.{_≡_, refl, sym, ap, _∙_, subst}
-use mathlib.Core.Bool.{Bool, true, false, cond, _&&_}
-use mathlib.Core.List.{List}
-use lib.ListN.{length}
-use lib.Dec.{leb, ltb, eqb}
-use borrow.Author.Tests.{eq-eqb, ne-eqb}
+-- `recovery::turn` meets its contract, kind by kind.
+-- Assumes nothing.
+use mathlib.Core.Path.{sym, ap, _∙_}
 use Rattle.block.specs.declared.Block.{Block}
-use Rattle.recovery.specs.declared.Walk.{Walk}
-use Rattle.recovery.specs.Log.{headerOf}
-use Rattle.recovery.specs.Walking.{refusedAt, closedWith, updateFits, commitFits, updated, spanFits, tested, Ready, Stands, Turns, Leads, Walks}
-use Rattle.recovery.proofs.Changing.{fails, holds, updated-wrong, updated-first, updated-next, cleans-wrong, cleans-right, commits-wrong, commits-right, by-full, by-room, tested-not, tested-by, commits-as, cleans-as}
-use Rattle.recovery.proofs.Turning.{commit-told, turns-not, turns-update, turns-clean, turns-commit}
-use Rattle.recovery.proofs.Leading.{Leading, leading-more, leading-end}
+use Rattle.recovery.specs.Walking.{updated}
+use Rattle.recovery.proofs.Changing.{commits-as, cleans-as}
+use Rattle.recovery.proofs.Turning.{turns-not, turns-update, turns-clean, turns-commit}
 use native.Mathlib.Omega.{arith}
 use borrow.Author.Needs.{needs}
 use Rattle.recovery.proofs.turn.Statement.{statement}
 use Rattle.recovery.proofs.turn.Tie as tie
-use Rattle.recovery.proofs.turn.Reads as reads
-use Rattle.recovery.proofs.turn.Lts as lts
-use Rattle.recovery.proofs.header.Reads as header-reads
-use Rattle.recovery.proofs.walk_clean.Reads as walk-clean-reads
-use Rattle.recovery.proofs.walk_commit.Reads as walk-commit-reads
-use Rattle.recovery.proofs.walk_update.Reads as walk-update-reads
 
--- src/lib.rt:292:9
 returns : tie.Need-returns
 returns c =
     let a = (c .before .before .before .before .before) .args in
     turns-not (a .log .now) (a .home .now) (a .s) _ _ (a .walk) (a .frames .now) (c .if1 .taken)
 
--- src/lib.rt:294:9
 header-requires : tie.Need-header-requires
 header-requires c κs = search needs
 
--- src/lib.rt:298:13
 enum-known-kind : tie.Need-enum-known-kind
 enum-known-kind c = search needs
 
--- src/lib.rt:302:14
 walk-update-requires : tie.Need-walk-update-requires
 walk-update-requires c κs = omega (arith, (c .before .before .before .before .before .before .before .before .before) .pre .6 ((c .before .before .before .before) .if1 .left) .few)
 
--- src/lib.rt:303:24
 enum-known-kind-2 : tie.Need-enum-known-kind-2
 enum-known-kind-2 c = search needs
 
--- src/lib.rt:303:37
 walk-commit-requires : tie.Need-walk-commit-requires
 walk-commit-requires c κs =
     (omega arith, omega arith, omega arith, omega arith, omega arith, (c .before .before .before .before .before .before .before .before .before .before) .pre .6 ((c .before .before .before .before .before) .if1 .left))
 
--- src/lib.rt:304:23
 enum-known-kind-3 : tie.Need-enum-known-kind-3
 enum-known-kind-3 c = search needs
 
--- src/lib.rt:304:33
 walk-clean-requires : tie.Need-walk-clean-requires
 walk-clean-requires c κs = search needs
 
--- src/lib.rt:287:1
 returns-2 : tie.Need-returns-2
 returns-2 c =
     let a = (c .before .before .before .before .before .before .before .before .before .before) .args in
@@ -68,11 +46,9 @@ returns-2 c =
     turns-update (a .log .now) (a .home .now) (a .s) (a .walk) (a .frames .now) ((c .before .before .before .before .before .before .before .before .before .before) .pre .5) ((c .before .before .before .before .before) .if1 .left) ready (g .0) (g .1 .0) (g .1 .1 .0) (g .1 .1 .1 .0) told _
     (c .walk-update .ensures ∙ ap (λ (b : Block). updated (a .walk) (a .s) (g .0) (b .ticket)) ((c .before .before .before .before) .header .ensures))
 
--- src/lib.rt:287:1
 same-length : tie.Need-same-length
 same-length c = search needs
 
--- src/lib.rt:287:1
 returns-3 : tie.Need-returns-3
 returns-3 c =
     let a = (c .before .before .before .before .before .before .before .before .before .before .before .before .before) .args in
@@ -82,7 +58,6 @@ returns-3 c =
     (commits-as (a .log .now) (a .home .now) (a .walk) (a .frames .now) (a .s) _ _ _ _ _ (ap (λ (b : Block). b .ticket) ((c .before .before .before .before .before .before .before) .header .ensures))
     ((c .before .before) .walk-commit .ensures))
 
--- src/lib.rt:287:1
 returns-4 : tie.Need-returns-4
 returns-4 c =
     let a = (c .before .before .before .before .before .before .before .before .before .before) .args in

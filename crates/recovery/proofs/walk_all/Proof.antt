@@ -1,24 +1,14 @@
-use Prim.Native.Nat.{ℕ, suc, _≤_, _<_, _-_, _+_, _*_, _/_, _%_}
-use mathlib.Core.Path.{_≡_, refl, sym, ap, _∙_, subst}
-use mathlib.Core.Bool.{Bool, true, false, cond, _&&_}
-use mathlib.Core.List.{List}
+-- `recovery::walk_all` meets its contract: what the walk leads to stays the same, turn by turn.
+-- Assumes nothing.
+use Prim.Native.Nat.{ℕ, suc, _≤_, _-_, _+_}
+use mathlib.Core.Path.{_≡_, refl, _∙_, subst}
 use lib.ListN.{length}
-use lib.Dec.{leb, ltb, eqb}
-use borrow.Author.Tests.{eq-eqb, ne-eqb}
-use Rattle.block.specs.declared.Block.{Block}
-use Rattle.recovery.specs.declared.Walk.{Walk}
-use Rattle.recovery.specs.Log.{headerOf}
-use Rattle.recovery.specs.Walking.{refusedAt, closedWith, updateFits, commitFits, updated, spanFits, tested, Ready, Stands, Turns, Leads, Walks}
-use Rattle.recovery.proofs.Changing.{fails, holds, updated-wrong, updated-first, updated-next, cleans-wrong, cleans-right, commits-wrong, commits-right, by-full, by-room, tested-not, tested-by}
-use Rattle.recovery.proofs.Turning.{commit-told, turns-not, turns-update, turns-clean, turns-commit}
+use Rattle.recovery.specs.Walking.{Ready}
 use Rattle.recovery.proofs.Leading.{Leading, leading-more, leading-end}
 use borrow.Author.Needs.{needs}
 use native.Mathlib.Omega.{arith}
 use Rattle.recovery.proofs.walk_all.Statement.{statement}
 use Rattle.recovery.proofs.walk_all.Tie as tie
-use Rattle.recovery.proofs.walk_all.Reads as reads
-use Rattle.recovery.proofs.walk_all.Lts as lts
-use Rattle.recovery.proofs.turn.Reads as turn-reads
 
 abbrev Inv-loop : tie.InvT-loop
 Inv-loop log home frames₀ first last w₀ s₀ frames w s =
@@ -28,25 +18,20 @@ Inv-loop log home frames₀ first last w₀ s₀ frames w s =
 abbrev μ-loop : tie.MeasureT-loop
 μ-loop log home frames₀ first last w₀ s₀ frames w s = last + 1 - s
 
--- src/lib.rt:322:5
 loop-holds : tie.Need-loop-holds Inv-loop μ-loop
 loop-holds c = (omega arith, omega arith, refl, refl, (c .before .before .before) .pre .7, λ slots next found l. l)
 
--- src/lib.rt:323:9
 turn-requires : tie.Need-turn-requires Inv-loop μ-loop
 turn-requires c κs =
     let l = (c .before .before) .loop in
     (omega arith, omega arith, omega arith, omega arith, omega arith, (c .before .before .before .before .before .before) .pre .6 (l .s) (omega arith) (omega arith), l .inv .4)
 
--- src/lib.rt:324:9
 add-s : tie.Need-add-s Inv-loop μ-loop
 add-s c = search needs
 
--- src/lib.rt:322:5
 loop-less : tie.Need-loop-less Inv-loop μ-loop
 loop-less c = search needs
 
--- src/lib.rt:322:5
 loop-again : tie.Need-loop-again Inv-loop μ-loop
 loop-again c =
     let a = (c .before .before .before .before .before .before .before .before .before) .args in
@@ -63,11 +48,9 @@ loop-again c =
     one : (n : ℕ) → suc n ≡ n + 1
     one n = omega arith
 
--- src/lib.rt:309:1
 same-length : tie.Need-same-length Inv-loop μ-loop
 same-length c = search needs
 
--- src/lib.rt:309:1
 returns : tie.Need-returns Inv-loop μ-loop
 returns c =
     let a = (c .before .before .before .before .before) .args in

@@ -1,0 +1,198 @@
+// Open on logs made by hand: cases 5, 6, 7 and 12 of document 01, each refusal with its place, and a log that wraps. N is 8, P 4, F 2
+// unless the line says otherwise; home's bytes are 5, and frames hold 9 before each opening. One line for each.
+use block::Block;
+use libc::STDOUT_FILENO;
+use promises::OpenOutcome;
+use promises::Opened;
+use promises::Refusal;
+use promises::State;
+use table::Table;
+ghost use mathlib.Core.Path.{_≡_};
+ghost use Prim.Native.Nat.{_≤_, _<_};
+ghost use lib.ListN.{length};
+ghost use Rattle.promises.specs.Answers.{numberOf};
+
+// Writes a text.
+fn word(text: &[u8]) {
+    io::write_all(STDOUT_FILENO, text);
+}
+
+// Writes a text and a number.
+fn labelled(text: &[u8], number: u64) {
+    word(text);
+    io::print_decimal(STDOUT_FILENO, number);
+}
+
+// The paper's number of a refusal.
+fn number_of(refusal: Refusal) -> u64
+    ensures { λ r. ⌜ r ≡ numberOf refusal ⌝ }
+{
+    match refusal {
+        Refusal::WrongLength => 1,
+        Refusal::NotSound => 2,
+        Refusal::OutOfRange => 3,
+        Refusal::WrongMoment => 4,
+        Refusal::Full => 5,
+        Refusal::SequencesUsedUp => 6,
+        Refusal::LogDamaged => 7,
+        Refusal::LogOutOfOrder => 8,
+        Refusal::TooFewFrames => 9,
+        Refusal::NothingToDo => 10,
+        Refusal::HeldBack => 11,
+    }
+}
+
+// Writes next, the count of dirty pages, the page in the first frame and its first byte.
+fn show_state(state: State, byte: u64) {
+    let dirty = state.dirty;
+    let count = table::dirty_pages(Table {
+        count: state.frames,
+        full: false,
+        dirty,
+    });
+    labelled(b" next ", state.next);
+    labelled(b" dirty ", count as u64);
+    if count != 0 {
+        let entry = state.dirty[0];
+        labelled(b" page ", entry.page as u64);
+        labelled(b" byte ", byte);
+    }
+}
+
+// Writes the answer; after a refusal, what the first byte of the frames is.
+fn show(outcome: OpenOutcome, byte: u64) {
+    let answer = outcome.answer;
+    match answer {
+        Opened::Refused(refusal, place) => {
+            labelled(b"refused ", number_of(refusal));
+            labelled(b" at ", place);
+            labelled(b" frames ", byte);
+        }
+        Opened::Settled(ticket) => {
+            let state = outcome.state;
+            labelled(b"settled ", ticket);
+            show_state(state, byte);
+        }
+    }
+    word(b"\n");
+}
+
+fn wide(byte: u8) -> u64 {
+    byte as u64
+}
+
+// Opens a log with so many frames, and shows what comes of it.
+fn run(label: &[u8], log: &[u8], count: usize)
+    requires { ⌜ count ≤ 2 ⌝ }
+{
+    let home = [5; 4096];
+    let mut frames = [9; 2048];
+    let staging = [3; 944];
+    let end = count * Block::PAGE;
+    let staging_end = count * Block::NEW_BYTES;
+    let outcome = opening::open(log, &home, &mut frames[..end], &staging[..staging_end]);
+    word(label);
+    show(outcome, wide(frames[0]));
+}
+
+// Stores a block and its new bytes in its slot of eight.
+fn store(log: &mut [u8], block: Block, bytes: &[u8])
+    requires { ⌜ (length (now log) ≡ 4096) × (length (now bytes) ≤ 472) ⌝ }
+{
+    let at = (block.sequence % 8) as usize * Block::SIZE;
+    block::write(&mut log[at..at + Block::SIZE], block, bytes);
+}
+
+// Blocks 1 and 2: byte 42 for page 0, and its commit.
+fn one_group(log: &mut [u8])
+    requires { ⌜ length (now log) ≡ 4096 ⌝ }
+{
+    store(log, Block::update(1, 1, 1, 0, 0, 1, 0), b"*");
+    store(log, Block::commit(2, 1, 1, 1), b"");
+}
+
+// Blocks 3 and 4: a byte for page 1, and its commit.
+fn second_group(log: &mut [u8])
+    requires { ⌜ length (now log) ≡ 4096 ⌝ }
+{
+    store(log, Block::update(3, 1, 1, 1, 0, 1, 1), b"+");
+    store(log, Block::commit(4, 1, 1, 2), b"");
+}
+
+// Blocks 3 to 8: half groups of one update each.
+fn half_groups(log: &mut [u8])
+    requires { ⌜ length (now log) ≡ 4096 ⌝ }
+{
+    let mut sequence = 3;
+    while sequence <= 8 {
+        store(log, Block::update(sequence, 1, 1, 0, 0, 1, 1), b"-");
+        sequence += 1;
+    }
+}
+
+// Cases 6, 5, 7 of document 01.
+fn small_logs() {
+    let mut log = [0; 4096];
+    run(b"fresh: ", &log, 2);
+    store(&mut log, Block::update(1, 1, 1, 0, 0, 1, 0), b"*");
+    run(b"case 6: ", &log, 2);
+    one_group(&mut log);
+    run(b"case 5: ", &log, 2);
+    store(&mut log, Block::clean(3, 3, 0, 1), b"");
+    run(b"case 7: ", &log, 2);
+}
+
+// Case 12 of document 01, and refusals 1 and 7.
+fn damaged_logs() {
+    let mut log = [0; 4096];
+    one_group(&mut log);
+    second_group(&mut log);
+    run(b"two pages, two frames: ", &log, 2);
+    run(b"case 12, one frame: ", &log, 1);
+    run(b"no frame: ", &log, 0);
+    log[1100] = 1;
+    log[1600] = 1;
+    run(b"blocks 2 and 3 damaged: ", &log, 2);
+    let mut junk = [0; 4096];
+    junk[77] = 1;
+    run(b"no valid slot, one damaged: ", &junk, 2);
+}
+
+// Refusal 8: a wrong ticket, a commit that does not close its group, and H + D above N at the end.
+fn disordered_logs() {
+    let mut log = [0; 4096];
+    one_group(&mut log);
+    second_group(&mut log);
+    store(&mut log, Block::update(3, 1, 1, 1, 0, 1, 0), b"+");
+    run(b"ticket 0 at block 3, one frame: ", &log, 1);
+    let mut open = [0; 4096];
+    store(&mut open, Block::update(1, 1, 1, 0, 0, 1, 0), b"*");
+    store(&mut open, Block::commit(2, 1, 2, 1), b"");
+    run(b"commit of two updates after one: ", &open, 2);
+    let mut long = [0; 4096];
+    one_group(&mut long);
+    half_groups(&mut long);
+    run(b"H 8 and D 1 of 8 slots: ", &long, 2);
+}
+
+// A half group is void; and a log that wraps: keep-from in slot 7, the newest block in slot 2.
+fn wrapped_logs() {
+    let mut log = [0; 4096];
+    store(&mut log, Block::update(1, 1, 1, 0, 0, 1, 0), b"*");
+    store(&mut log, Block::update(2, 1, 1, 3, 0, 1, 0), b"+");
+    store(&mut log, Block::commit(3, 1, 1, 1), b"");
+    run(b"a half group of page 0, then page 3: ", &log, 2);
+    let mut wrapped = [0; 4096];
+    store(&mut wrapped, Block::update(7, 7, 1, 1, 0, 1, 2), b"!");
+    store(&mut wrapped, Block::commit(8, 7, 1, 3), b"");
+    store(&mut wrapped, Block::update(9, 7, 1, 2, 0, 1, 3), b"?");
+    store(&mut wrapped, Block::commit(10, 7, 1, 4), b"");
+    run(b"wrapped: ", &wrapped, 2);
+}
+
+fn main() {
+    small_logs();
+    damaged_logs();
+    disordered_logs();
+    wrapped_logs();
+}
