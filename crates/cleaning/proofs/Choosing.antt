@@ -1,7 +1,7 @@
 -- The frame that is cleaned next: the least rank of all, and what soundness says of a frame's entry.
 -- Assumes nothing.
 use mathlib.Core.Path.{_≡_, refl, sym, ap, _∙_, subst}
-use mathlib.Core.Bool.{Bool, true, false, cond, not, _&&_}
+use mathlib.Core.Bool.{Bool, true, false, cond, not}
 use mathlib.Core.List.{List, [], _∷_}
 use Prim.Native.Nat.{ℕ, zero, suc, _+_, _-_, _*_, _^_, _≤_, _<_}
 use native.Mathlib.Omega.{arith}
@@ -10,16 +10,16 @@ use lib.ListN.{length, take, drop, getD}
 use lib.Seq.{getD-take, set-getD, length-take-le}
 use borrow.Author.Tests.{eqb-true, eqb-false, eq-eqb, ne-eqb, ltb-true, not-true}
 use Rattle.area.proofs.Parts.{either}
-use Rattle.block.proofs.Tests.{by-cases, never-both}
+use Rattle.block.proofs.Tests.{never-both}
 use Rattle.promises.specs.declared.State.{State}
 use Rattle.promises.specs.declared.Dirty.{Dirty}
 use Rattle.promises.specs.Areas.{pageAt}
-use Rattle.promises.specs.DirtyPages.{DirtyPage, Found, absent, at, lookUp}
+use Rattle.promises.specs.DirtyPages.{DirtyPage, at, lookUp}
 use Rattle.promises.specs.Contents.{unless, dirtyFrom}
 use Rattle.promises.specs.Sums.{firstGroups, dirtyCount}
-use Rattle.promises.specs.Sound.{member, distinct, allBelow, dirtyNumbers}
+use Rattle.promises.specs.Sound.{member, allBelow, dirtyNumbers}
 use Rattle.promises.proofs.Soundness.{and-both, Sound}
-use Rattle.promises.proofs.Table.{entryOr, lookUp-set}
+use Rattle.promises.proofs.Table.{lookUp-set}
 use Rattle.promises.proofs.History.Sees.{by-eq}
 use Rattle.table.specs.Search.{free, isOf, placeOf}
 use Rattle.table.proofs.Entries.{own-apart, place-true, none-held}

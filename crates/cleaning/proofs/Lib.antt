@@ -2,3 +2,4 @@ pub mod Decision
 pub mod Choosing
 pub mod Storing
 pub mod Stepped
+pub mod Legal

@@ -3,30 +3,28 @@
 use mathlib.Core.Path.{_≡_, refl, sym, ap, _∙_, subst}
 use mathlib.Core.Bool.{true}
 use mathlib.Core.List.{List, []}
-use Prim.Native.Nat.{ℕ, _+_, _*_, _^_, _≤_, _<_}
+use Prim.Native.Nat.{ℕ, _*_, _^_, _≤_, _<_}
 use native.Mathlib.Omega.{arith}
-use lib.ListN.{length, getD}
+use lib.ListN.{length}
 use Rattle.block.proofs.Tests.{tests}
 use Rattle.promises.specs.declared.State.{State}
-use Rattle.promises.specs.declared.Dirty.{Dirty}
 use Rattle.promises.specs.declared.Cleaning.{Cleaning}
 use Rattle.promises.specs.declared.Cleaning.the-variants.{Idle, First, Second, Third}
 use Rattle.promises.specs.Areas.{pageAt, firstHalf, secondHalf, withFirstHalf, withSecondHalf}
 use Rattle.promises.specs.Blocks.{clean, stored}
-use Rattle.promises.specs.DirtyPages.{DirtyPage, at, lookUp, without, keepFromOf}
-use Rattle.promises.specs.Contents.{Contents, contentsOf, dirtyOf}
-use Rattle.promises.specs.Sums.{dirtyCount, firstGroups, smallest, sequencesTaken}
+use Rattle.promises.specs.DirtyPages.{DirtyPage, at, lookUp, without}
+use Rattle.promises.specs.Contents.{contentsOf, dirtyOf}
+use Rattle.promises.specs.Sums.{dirtyCount, sequencesTaken}
 use Rattle.promises.specs.Sound.{sound, names, member, dirtyNumbers}
-use Rattle.promises.specs.CleanStep.{Takes, cleanStore, cleanStored, thirdRefusal, cleanRefusalOf, CleanStep, CleanSteps}
+use Rattle.promises.specs.CleanStep.{Takes, cleanStore, thirdRefusal, cleanRefusalOf, CleanSteps}
 use Rattle.promises.proofs.Soundness.{Sound, sound-of, of-sound}
 use Rattle.promises.proofs.Changes.{cleaningTo, sound-cleaning}
 use Rattle.promises.proofs.Promised.{clean-accepts}
-use Rattle.table.specs.Search.{free}
 use Rattle.table.specs.Table.{Holds}
 use Rattle.table.proofs.Holding.{held-keep, sound-holds}
 use Rattle.stepping.specs.Tables.{tableWith, tableOf}
 use Rattle.stepping.proofs.Held.{held-named}
-use Rattle.cleaning.specs.Cleans.{entryAt, rankOf, TakesFrame, Named, Chosen, Fitting, Cleaned, cleanDone, doneWith}
+use Rattle.cleaning.specs.Cleans.{entryAt, rankOf, TakesFrame, Named, Chosen, Fitting, Cleaned, doneWith}
 use Rattle.cleaning.proofs.Decision.{Accepted, accepted, block-passed}
 use Rattle.cleaning.proofs.Choosing.{first-used, first-least, pages-small, frames-below, look-frame, look-least}
 use Rattle.cleaning.proofs.Storing.{sound-clean}

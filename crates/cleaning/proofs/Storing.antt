@@ -3,7 +3,7 @@
 use mathlib.Core.Path.{_≡_, refl, sym, ap, _∙_, subst}
 use mathlib.Core.Bool.{true}
 use mathlib.Core.List.{List, [], _++_}
-use Prim.Native.Nat.{ℕ, _+_, _-_, _*_, _^_, _≤_, _<_}
+use Prim.Native.Nat.{ℕ, _+_, _-_, _*_, _^_, _≤_}
 use native.Mathlib.Omega.{arith}
 use lib.ListN.{length}
 use Rattle.area.specs.Part.{part, splice}
@@ -15,8 +15,8 @@ use Rattle.block.specs.declared.Block.{Block}
 use Rattle.promises.specs.declared.State.{State}
 use Rattle.promises.specs.declared.Dirty.{Dirty}
 use Rattle.promises.specs.Areas.{pageAt, withSlot, firstHalf, secondHalf, withFirstHalf, withSecondHalf}
-use Rattle.promises.specs.Blocks.{written, stored, clean}
-use Rattle.promises.specs.DirtyPages.{DirtyPage, at, lookUp, without, keepFromOf}
+use Rattle.promises.specs.Blocks.{written, stored}
+use Rattle.promises.specs.DirtyPages.{DirtyPage, at, lookUp, without}
 use Rattle.promises.specs.Contents.{dirtyOf}
 use Rattle.promises.specs.Sums.{firstGroups, halfStarts, groupStart, smallest, sequencesTaken}
 use Rattle.promises.specs.Sound.{allBelow, dirtyNumbers}

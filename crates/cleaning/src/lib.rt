@@ -10,7 +10,7 @@ use promises::State;
 ghost use mathlib.Core.Path.{_≡_};
 ghost use mathlib.Core.Bool.{true};
 ghost use Prim.Native.Nat.{ℕ, _+_, _*_, _^_, _≤_, _<_};
-ghost use lib.ListN.{length, getD};
+ghost use lib.ListN.{length};
 ghost use Rattle.promises.specs.Answers.{refusalIn};
 ghost use Rattle.promises.specs.Areas.{logLength, pageAt, firstHalf, secondHalf, withFirstHalf, withSecondHalf};
 ghost use Rattle.promises.specs.Sums.{dirtyCount};

@@ -1,10 +1,10 @@
 -- The oldest group applied to the frames, update by update, and what its commit leaves.
 -- Assumes nothing.
-use mathlib.Core.Path.{_≡_, refl, sym, ap, _∙_, subst}
-use mathlib.Core.List.{List, [], _∷_, map}
+use mathlib.Core.Path.{_≡_, sym, ap, _∙_, subst}
+use mathlib.Core.List.{List, _∷_, map}
 use Prim.Native.Nat.{ℕ, _+_, _-_, _*_, _≤_, _<_}
 use native.Mathlib.Omega.{arith}
-use lib.ListN.{length, take, drop, getD, length-take, length-map, List·getD-map}
+use lib.ListN.{length, take, drop, length-take, length-map, List·getD-map}
 use Rattle.area.proofs.Parts.{from-to}
 use Rattle.promises.specs.declared.State.{State}
 use Rattle.promises.specs.declared.Staged.{Staged}

@@ -1,6 +1,6 @@
 -- The block that a Log step stores, from the fields and the bytes that the code hands to the store.
 -- Assumes nothing.
-use mathlib.Core.Path.{_≡_, refl, sym, ap, _∙_}
+use mathlib.Core.Path.{_≡_, sym, ap, _∙_}
 use mathlib.Core.List.{List, []}
 use Prim.Native.Nat.{ℕ, _+_, _-_, _*_, _≤_}
 use native.Mathlib.Omega.{arith}
@@ -12,7 +12,6 @@ use Rattle.block.specs.Layout.{layout}
 use Rattle.block.specs.Legal.{slotOf}
 use Rattle.block.specs.declared.Block.{Block}
 use Rattle.promises.specs.declared.State.{State}
-use Rattle.promises.specs.declared.Staged.{Staged}
 use Rattle.promises.specs.Areas.{withSlot}
 use Rattle.promises.specs.Blocks.{written, stored}
 use Rattle.logging.specs.Logging.{sizeOf, stagedAt, updateAt, commitAt}

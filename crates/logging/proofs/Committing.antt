@@ -1,14 +1,14 @@
 -- A commit leaves a sound state: its group's updates leave V and at most as many pages become dirty; H grows by the block stored.
 -- Assumes nothing.
 use mathlib.Core.Path.{_≡_, refl, sym, ap, _∙_, subst}
-use mathlib.Core.Bool.{Bool, true, false, cond, _&&_}
+use mathlib.Core.Bool.{true, false, _&&_}
 use mathlib.Core.List.{List, [], _∷_, _++_, map}
-use Prim.Native.Nat.{ℕ, zero, suc, _+_, _-_, _^_, _≤_, _<_, min}
+use Prim.Native.Nat.{ℕ, _+_, _-_, _≤_, _<_}
 use native.Mathlib.Omega.{arith}
-use lib.Dec.{eqb, leb, ltb}
-use lib.ListN.{length, take, drop, getD, length-take, length-drop, length-append, length-map}
+use lib.Dec.{eqb, leb}
+use lib.ListN.{length, take, length-map}
 use lib.Seq.{length-take-le}
-use borrow.Author.Tests.{leb-true, ltb-true, eqb-false, le-leb}
+use borrow.Author.Tests.{leb-true, eqb-false, le-leb}
 use Rattle.block.specs.Legal.{legalPlace}
 use Rattle.block.proofs.Tests.{tests, by-cases, never-both}
 use Rattle.promises.specs.declared.State.{State}
@@ -16,12 +16,11 @@ use Rattle.promises.specs.declared.Dirty.{Dirty}
 use Rattle.promises.specs.declared.Staged.{Staged}
 use Rattle.promises.specs.declared.Cleaning.{Cleaning}
 use Rattle.promises.specs.declared.Cleaning.the-variants.{Idle, First, Second, Third}
-use Rattle.promises.specs.Areas.{pageAt}
 use Rattle.promises.specs.Updates.{Update, ofPage}
-use Rattle.promises.specs.DirtyPages.{DirtyPage, Found, absent, at, lookUp, apply, applyAll, keepFromOf}
-use Rattle.promises.specs.Contents.{waiting, total, groupsOf, queueOf, dirtyOf}
+use Rattle.promises.specs.DirtyPages.{DirtyPage, Found, absent, at, lookUp, apply, applyAll}
+use Rattle.promises.specs.Contents.{waiting, total, groupsOf, dirtyOf}
 use Rattle.promises.specs.Sums.{firstGroups, groupStart, halfStarts, smallest, blockCount}
-use Rattle.promises.specs.Sound.{member, allBelow, allLegal, sizesLegal, ofOldest, names, dirtyNumbers, stagedOf, areasOf}
+use Rattle.promises.specs.Sound.{member, allBelow, allLegal, sizesLegal, ofOldest, names, dirtyNumbers, stagedOf}
 use Rattle.promises.proofs.Soundness.{and-both, and2, Sound}
 use Rattle.promises.proofs.Changes.{below-more, held-is, smallest-le}
 use Rattle.promises.proofs.SoundFacts.{length-dirty, keepFrom-dirty}
@@ -31,7 +30,7 @@ use Rattle.table.specs.Table.{Holds}
 use Rattle.table.proofs.Holding.{held-count, held-keep, Each, Below, held-below}
 use Rattle.stepping.specs.Tables.{tableWith}
 use Rattle.stepping.proofs.Held.{look-unnamed, held-named, Changed, each-all, each-below, each-oldest, oldest-each}
-use Rattle.queue.specs.Queue.{changes, idleIf, cleaningLeft, shifted, commitDone}
+use Rattle.queue.specs.Queue.{changes, cleaningLeft, commitDone}
 use Rattle.queue.proofs.Leaving.{map-take, length-shifted, groups-left, staged-left, distinct-behind, below-behind, legal-behind, unchanged}
 use Rattle.logging.specs.Logging.{sizeOf, oldestGroup}
 

@@ -1,14 +1,14 @@
 -- Log step's refusal, test by test, and what an accepted Log step leans on.
 -- Assumes nothing.
-use mathlib.Core.Path.{_≡_, refl, sym, ap, _∙_, subst}
-use mathlib.Core.Bool.{Bool, true, false, cond, _&&_}
+use mathlib.Core.Path.{_≡_, ap, _∙_, subst}
+use mathlib.Core.Bool.{Bool, true, cond, _&&_}
 use mathlib.Core.List.{List, [], _∷_}
 use Prim.Native.Nat.{ℕ, zero, suc, _+_, _-_, _^_, _≤_, _<_}
 use native.Mathlib.Omega.{arith}
 use lib.Dec.{eqb, leb, ltb}
-use lib.ListN.{length, take, getD}
+use lib.ListN.{length, getD}
 use lib.Seq.{getD-take, length-take-le}
-use borrow.Author.Tests.{eqb-true, eqb-false, leb-true, ltb-true}
+use borrow.Author.Tests.{eqb-false, leb-true, ltb-true}
 use Rattle.block.specs.Legal.{legalPlace}
 use Rattle.block.proofs.Tests.{tests}
 use Rattle.promises.specs.declared.State.{State}
@@ -64,7 +64,7 @@ area-at frames (x ∷ xs) zero h e = ltb-true _ _ (and-both (ltb (x .area) frame
 area-at frames (x ∷ xs) (suc i) h e = area-at frames xs i (omega arith) (and-both (ltb (x .area) frames) (allBelow frames (areasOf xs)) e .1)
 
 placed-by : (pages frames : ℕ) (x : Staged) → legalPlace pages (x .page) (x .offset) (x .length) ≡ true → x .area < frames → Placed pages frames x
-placed-by pages frames x h a = let g = simp tests at h in record { page = omega arith; length = omega arith; end = omega arith; area = a }
+placed-by pages frames x h a = let g = simp tests at h in record { page = omega arith; some = omega arith; length = omega arith; end = omega arith; area = a }
 
 -- a sound state with a queued group
 module _ (s : State) (f : Sound s) (some : 1 ≤ s .queued) where

@@ -3,3 +3,4 @@ pub mod Applied
 pub mod Committing
 pub mod Decision
 pub mod Stepped
+pub mod Legal

@@ -1,34 +1,28 @@
 -- An accepted Log step keeps its whole promise: the update that it stores, or the commit.
 -- Assumes nothing.
 use mathlib.Core.Path.{_≡_, refl, sym, ap, _∙_, subst}
-use mathlib.Core.Bool.{true, cond}
 use mathlib.Core.List.{List, [], _∷_, map}
-use Prim.Native.Nat.{ℕ, _+_, _-_, _*_, _≤_, _<_, min}
+use Prim.Native.Nat.{ℕ, _+_, _-_, _≤_, _<_, min}
 use native.Mathlib.Omega.{arith}
 use lib.Dec.{eqb}
-use lib.ListN.{length, getD, take, length-map, List·getD-map}
+use lib.ListN.{length, getD, length-map, List·getD-map}
 use lib.Seq.{getD-take, length-take-le}
 use Rattle.area.specs.Part.{part}
 use Rattle.block.proofs.Tests.{by-cases}
 use Rattle.promises.specs.declared.State.{State}
-use Rattle.promises.specs.declared.Dirty.{Dirty}
-use Rattle.promises.specs.declared.LogOutcome.{LogOutcome}
 use Rattle.promises.specs.declared.Logged.the-variants.{Stored, Settled}
 use Rattle.promises.specs.Areas.{pageAt}
 use Rattle.promises.specs.Updates.{Update}
-use Rattle.promises.specs.Blocks.{LogBlock, update, commit, stored}
+use Rattle.promises.specs.Blocks.{update, commit, stored}
 use Rattle.promises.specs.DirtyPages.{DirtyPage, apply, applyAll, keepFromOf}
-use Rattle.promises.specs.Contents.{waiting, total, groupsOf, queueOf, contentsOf, dirtyOf}
+use Rattle.promises.specs.Contents.{waiting, total, queueOf, contentsOf, dirtyOf}
 use Rattle.promises.specs.Sums.{firstGroups, groupStart, smallest}
-use Rattle.promises.specs.Sound.{sound}
-use Rattle.promises.specs.LogStep.{noUpdate, updateBlock, commitBlock, commitStored, dirtyAfter, logRefusalOf, UpdateStep, CommitStep, LogSteps}
+use Rattle.promises.specs.LogStep.{noUpdate, updateBlock, commitBlock, dirtyAfter, logRefusalOf, UpdateStep, LogSteps}
 use Rattle.promises.proofs.Soundness.{Sound, sound-of, of-sound}
 use Rattle.promises.proofs.SoundFacts.{length-dirty, keepFrom-dirty}
 use Rattle.promises.proofs.Changes.{updateDone, update-met}
 use Rattle.promises.proofs.Promised.{log-updates, log-commits}
-use Rattle.table.specs.Table.{Holds}
 use Rattle.table.proofs.Holding.{sound-holds}
-use Rattle.stepping.specs.Tables.{tableWith}
 use Rattle.queue.specs.Queue.{commitDone}
 use Rattle.queue.proofs.Leaving.{queue-left, contents-left}
 use Rattle.logging.specs.Logging.{noStaged, sizeOf, stagedAt, oldestGroup, updateAt, commitAt, Commits}

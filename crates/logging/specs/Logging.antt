@@ -1,8 +1,7 @@
 -- The parts of Log step: what an accepted one leans on, the two blocks, and what the commit leaves.
 -- Assumes nothing.
-use Prim.Native.Nat.{ℕ, _+_, _-_, _^_, _≤_, _<_}
+use Prim.Native.Nat.{ℕ, _+_, _≤_, _<_}
 use mathlib.Core.Path.{_≡_}
-use mathlib.Core.Bool.{true}
 use mathlib.Core.List.{List, map}
 use lib.ListN.{length, take, getD}
 use Rattle.block.specs.Sizes.{newBytesMost, pageSize, sequenceEnd}
@@ -36,6 +35,7 @@ oldestGroup state staging = take (sizeOf state) (map (waiting staging) (state .s
 -- a staged update lies within home and within its staging area
 pub record Placed (pages frames : ℕ) (staged : Staged) : Type 0 where
   pub page : staged .page < pages
+  pub some : 1 ≤ staged .length
   pub length : staged .length ≤ newBytesMost
   pub end : staged .offset + staged .length ≤ pageSize
   pub area : staged .area < frames

@@ -7,7 +7,7 @@ use promises::Refusal;
 use promises::State;
 use table::Table;
 ghost use mathlib.Core.Path.{_≡_};
-ghost use Prim.Native.Nat.{_+_, _-_, _≤_, _<_};
+ghost use Prim.Native.Nat.{_+_, _-_, _<_};
 ghost use lib.ListN.{length};
 ghost use Rattle.promises.specs.Answers.{refusalIn};
 ghost use Rattle.promises.specs.Blocks.{stored};

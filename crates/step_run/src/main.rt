@@ -195,19 +195,8 @@ fn cleans(
     after
 }
 
-// A state with these two frames, this many queued groups of these sizes and this cleaning.
-fn state_of(
-    next: u64,
-    ticket: u64,
-    first_frame: Dirty,
-    second_frame: Dirty,
-    sizes: [u8; 2],
-    stored: usize,
-    cleaning: Cleaning,
-) -> State {
-    let mut dirty = [Dirty { page: 0, first: 0 }; 32];
-    dirty[0] = first_frame;
-    dirty[1] = second_frame;
+// Two staged updates of page 0: byte 0, and bytes 0 and 1.
+fn two_staged() -> [Staged; 32] {
     let mut staged = [Staged {
         page: 0,
         offset: 0,
@@ -220,14 +209,25 @@ fn state_of(
         length: 2,
         area: 1,
     };
+    staged
+}
+
+// A state with these two frames, one queued group of so many updates, or none where it is 0, and this cleaning.
+fn state_of(
+    next: u64,
+    ticket: u64,
+    first_frame: Dirty,
+    second_frame: Dirty,
+    size: u8,
+    stored: usize,
+    cleaning: Cleaning,
+) -> State {
+    let mut dirty = [Dirty { page: 0, first: 0 }; 32];
+    dirty[0] = first_frame;
+    dirty[1] = second_frame;
+    let staged = two_staged();
     let mut groups = [0u8; 32];
-    groups[0] = sizes[0];
-    groups[1] = sizes[1];
-    let queued = if sizes[0] == 0 {
-        0
-    } else {
-        if sizes[1] == 0 { 1 } else { 2 }
-    };
+    groups[0] = size;
     State {
         pages: 4,
         slots: 8,
@@ -237,7 +237,7 @@ fn state_of(
         dirty,
         staged,
         groups,
-        queued,
+        queued: if size == 0 { 0 } else { 1 },
         stored,
         reserved: 0,
         described: 0,
@@ -252,7 +252,7 @@ fn nothing() -> Dirty {
 
 // The log's part in the life of one transaction: cases 2 and 3 of the paper come out as blocks, then nothing is queued.
 fn life_logged(log: &mut [u8], home: &[u8], frames: &mut [u8], staging: &[u8]) -> State {
-    let queued = state_of(1, 0, nothing(), nothing(), [1, 0], 0, Cleaning::Idle);
+    let queued = state_of(1, 0, nothing(), nothing(), 1, 0, Cleaning::Idle);
     let half = logs(queued, log, home, frames, staging, 1);
     let dirty = logs(half, log, home, frames, staging, 2);
     logs(dirty, log, home, frames, staging, 3)
@@ -273,7 +273,7 @@ fn life_over(state: State, log: &mut [u8], short_log: &mut [u8], home: &mut [u8]
 
 // A group of two updates of one page, whose sequences wrap: the later update wins.
 fn wrapped(log: &mut [u8], home: &[u8], frames: &mut [u8], staging: &[u8]) {
-    let queued = state_of(8, 1, nothing(), nothing(), [2, 0], 0, Cleaning::Idle);
+    let queued = state_of(8, 1, nothing(), nothing(), 2, 0, Cleaning::Idle);
     let one = logs(queued, log, home, frames, staging, 0);
     let two = logs(one, log, home, frames, staging, 1);
     logs(two, log, home, frames, staging, 2);
@@ -286,7 +286,7 @@ fn overtaken(log: &mut [u8], home: &mut [u8], frames: &mut [u8], staging: &[u8])
         1,
         Dirty { page: 0, first: 2 },
         nothing(),
-        [1, 0],
+        1,
         1,
         Cleaning::Third(0),
     );
@@ -301,7 +301,7 @@ fn taken(log: &mut [u8], home: &mut [u8], frames: &[u8]) {
         2,
         Dirty { page: 0, first: 4 },
         Dirty { page: 2, first: 3 },
-        [0, 0],
+        0,
         0,
         Cleaning::Idle,
     );
@@ -311,7 +311,7 @@ fn taken(log: &mut [u8], home: &mut [u8], frames: &[u8]) {
         2,
         Dirty { page: 3, first: 3 },
         Dirty { page: 1, first: 3 },
-        [0, 0],
+        0,
         0,
         Cleaning::Idle,
     );
@@ -328,7 +328,7 @@ fn used_up(log: &mut [u8], home: &mut [u8], frames: &[u8]) {
             first: 281474976710655,
         },
         nothing(),
-        [0, 0],
+        0,
         0,
         Cleaning::Third(0),
     );
@@ -337,7 +337,7 @@ fn used_up(log: &mut [u8], home: &mut [u8], frames: &[u8]) {
 
 // A state that is not sound: its ticket is not below next.
 fn not_sound(log: &mut [u8], home: &mut [u8], frames: &mut [u8], staging: &[u8]) {
-    let unsound = state_of(3, 3, nothing(), nothing(), [1, 0], 0, Cleaning::Idle);
+    let unsound = state_of(3, 3, nothing(), nothing(), 1, 0, Cleaning::Idle);
     logs(unsound, log, home, frames, staging, 3);
     cleans(unsound, log, home, frames, 3, 0);
 }

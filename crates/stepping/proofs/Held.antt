@@ -1,9 +1,9 @@
 -- Dirty pages that a table holds: what a sound state's pages keep under updates, and which pages are named.
 -- Assumes nothing.
-use mathlib.Core.Path.{_≡_, refl, sym, ap, _∙_}
+use mathlib.Core.Path.{_≡_, refl, sym, _∙_}
 use mathlib.Core.Bool.{Bool, true, false, cond, _||_}
 use mathlib.Core.List.{List, [], _∷_}
-use Prim.Native.Nat.{ℕ, suc, _≤_, _<_, min}
+use Prim.Native.Nat.{ℕ, suc, _≤_}
 use native.Mathlib.Omega.{arith}
 use lib.Dec.{eqb, ltb}
 use borrow.Author.Tests.{ltb-true}
@@ -11,7 +11,7 @@ use Rattle.block.proofs.Tests.{by-cases}
 use Rattle.promises.specs.declared.Dirty.{Dirty}
 use Rattle.promises.specs.Areas.{pageAt}
 use Rattle.promises.specs.Updates.{Update}
-use Rattle.promises.specs.DirtyPages.{DirtyPage, Found, absent, at, lookUp, apply, applyAll, keepFromOf}
+use Rattle.promises.specs.DirtyPages.{DirtyPage, absent, at, lookUp, apply, applyAll, keepFromOf}
 use Rattle.promises.specs.Contents.{unless, dirtyFrom}
 use Rattle.promises.specs.Sums.{firstGroups}
 use Rattle.promises.specs.Sound.{member, allBelow, dirtyNumbers}

@@ -1,9 +1,8 @@
 -- `cleaning::block_refusal` meets its contract: the half-stored group is tested first, then the sequences.
 -- Assumes nothing.
-use mathlib.Core.Path.{_≡_, refl, sym, ap, _∙_}
+use mathlib.Core.Path.{refl, sym}
 use mathlib.Core.Bool.{true, false}
-use Prim.Native.Nat.{ℕ, _+_, _^_}
-use lib.Dec.{eqb}
+use Prim.Native.Nat.{_^_}
 use borrow.Author.Tests.{eq-eqb, ne-eqb}
 use Rattle.promises.specs.Sums.{sequencesTaken}
 use Rattle.promises.proofs.Soundness.{Sound, sound-of}

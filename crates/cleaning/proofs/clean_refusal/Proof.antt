@@ -1,13 +1,11 @@
 -- `cleaning::clean_refusal` meets its contract: each test is the paper's, in its order.
 -- Assumes nothing.
-use mathlib.Core.Path.{_≡_, refl, sym, ap, _∙_}
+use mathlib.Core.Path.{_≡_, refl, sym, _∙_}
 use mathlib.Core.Bool.{true, false}
 use borrow.Author.Tests.{not-true, not-false, eq-eqb, ne-eqb}
 use Rattle.promises.specs.Sound.{sound}
-use Rattle.promises.specs.LogStep.{areasFit}
 use Rattle.promises.proofs.Soundness.{Sound, sound-of}
 use Rattle.cleaning.proofs.Decision.{by-tests}
-use native.Mathlib.Omega.{arith}
 use borrow.Author.Needs.{needs}
 use Rattle.cleaning.proofs.clean_refusal.Statement.{statement}
 use Rattle.cleaning.proofs.clean_refusal.Tie as tie

@@ -3,7 +3,6 @@
 use mathlib.Core.Path.{sym, ap, _∙_}
 use Rattle.promises.specs.Answers.{refusalIn}
 use Rattle.stepping.proofs.Refused.{clean-refused}
-use native.Mathlib.Omega.{arith}
 use borrow.Author.Needs.{needs}
 use Rattle.cleaning.proofs.clean_step.Statement.{statement}
 use Rattle.cleaning.proofs.clean_step.Tie as tie

@@ -3,10 +3,8 @@
 use mathlib.Core.Path.{_≡_}
 use lib.ListN.{length}
 use Rattle.table.proofs.Scans.{length-mapped}
-use Rattle.cleaning.specs.Cleans.{Fitting}
 use Rattle.cleaning.proofs.Decision.{Accepted, accepted}
 use Rattle.cleaning.proofs.Stepped.{fitting, idle-steps, first-steps, second-steps, third-ready, third-steps}
-use native.Mathlib.Omega.{arith}
 use borrow.Author.Needs.{needs}
 use Rattle.cleaning.proofs.clean_store.Statement.{statement}
 use Rattle.cleaning.proofs.clean_store.Tie as tie

@@ -1,10 +1,7 @@
 -- `cleaning::first_frame` meets its contract: the best frame so far has the least rank of those passed.
 -- Assumes nothing.
 use Prim.Native.Nat.{ℕ, _≤_, _<_, _-_}
-use mathlib.Core.Path.{_≡_, refl}
 use mathlib.Core.Logic.{⊎-elim}
-use lib.ListN.{length}
-use Rattle.table.proofs.Scans.{length-mapped}
 use Rattle.cleaning.specs.Cleans.{entryAt, rankOf}
 use Rattle.cleaning.proofs.Choosing.{least-first, least-taken, least-kept}
 use borrow.Author.Needs.{needs}

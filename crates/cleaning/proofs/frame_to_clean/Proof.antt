@@ -2,7 +2,7 @@
 -- Assumes nothing.
 use mathlib.Core.Path.{_≡_}
 use lib.ListN.{length}
-use Rattle.promises.proofs.Soundness.{Sound, sound-of}
+use Rattle.promises.proofs.Soundness.{sound-of}
 use Rattle.table.proofs.Scans.{length-mapped}
 use Rattle.cleaning.proofs.Choosing.{firsts-small}
 use Rattle.cleaning.proofs.Stepped.{chosen-first, chosen-named, names-dirty}

@@ -1,8 +1,8 @@
 -- `cleaning::named_frame` meets its contract: a dirty page is found in a frame.
 -- Assumes nothing.
-use mathlib.Core.Path.{_≡_, sym, ap, _∙_}
+use mathlib.Core.Path.{_≡_, ap, _∙_}
 use Prim.Native.Nat.{ℕ}
-use lib.ListN.{length, take}
+use lib.ListN.{length}
 use Rattle.promises.proofs.Soundness.{Sound, sound-of}
 use Rattle.table.specs.declared.Table.{Table}
 use Rattle.table.specs.Search.{isOf, placeOf, entriesOf}

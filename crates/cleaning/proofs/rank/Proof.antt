@@ -2,7 +2,6 @@
 -- Assumes nothing.
 use mathlib.Core.Path.{sym}
 use Rattle.cleaning.proofs.Choosing.{rank-free, rank-used}
-use native.Mathlib.Omega.{arith}
 use borrow.Author.Needs.{needs}
 use Rattle.cleaning.proofs.rank.Statement.{statement}
 use Rattle.cleaning.proofs.rank.Tie as tie

@@ -4,7 +4,6 @@ use mathlib.Core.Path.{ap}
 use Prim.Native.Nat.{ℕ, _*_}
 use Rattle.cleaning.specs.Cleans.{entryAt}
 use Rattle.cleaning.proofs.Storing.{first-half-stored}
-use native.Mathlib.Omega.{arith}
 use borrow.Author.Needs.{needs}
 use Rattle.cleaning.proofs.store_first.Statement.{statement}
 use Rattle.cleaning.proofs.store_first.Tie as tie

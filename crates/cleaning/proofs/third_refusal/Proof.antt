@@ -2,7 +2,6 @@
 -- Assumes nothing.
 use mathlib.Core.Path.{sym, ap, _∙_}
 use Rattle.promises.specs.CleanStep.{thirdRefusal}
-use native.Mathlib.Omega.{arith}
 use borrow.Author.Needs.{needs}
 use Rattle.cleaning.proofs.third_refusal.Statement.{statement}
 use Rattle.cleaning.proofs.third_refusal.Tie as tie

@@ -1,6 +1,6 @@
 -- `logging::apply_staged` meets its contract: the staged update's fields and bytes are those that are applied.
 -- Assumes nothing.
-use mathlib.Core.Path.{_≡_, ap}
+use mathlib.Core.Path.{ap}
 use Prim.Native.Nat.{ℕ, _*_}
 use Rattle.logging.specs.Logging.{Placed, stagedAt}
 use Rattle.logging.proofs.Applied.{staged-applied}

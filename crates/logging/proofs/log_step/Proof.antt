@@ -1,10 +1,8 @@
 -- `logging::log_step` meets its contract, Log step's promise.
 -- Assumes nothing.
-use mathlib.Core.Path.{_≡_, refl, sym, ap, _∙_}
-use Rattle.promises.specs.declared.Answer.{Answer}
+use mathlib.Core.Path.{sym, ap, _∙_}
 use Rattle.promises.specs.Answers.{refusalIn}
 use Rattle.stepping.proofs.Refused.{log-refused}
-use native.Mathlib.Omega.{arith}
 use borrow.Author.Needs.{needs}
 use Rattle.logging.proofs.log_step.Statement.{statement}
 use Rattle.logging.proofs.log_step.Tie as tie

@@ -1,6 +1,5 @@
 -- `logging::log_store` meets its contract: the update that is next, or the commit.
 -- Assumes nothing.
-use mathlib.Core.Path.{_≡_, sym, _∙_}
 use lib.ListN.{length}
 use Rattle.logging.specs.Logging.{Ready}
 use Rattle.logging.proofs.Decision.{ready, ready-alone}

@@ -1,13 +1,12 @@
 -- `logging::store_commit` meets its contract: the commit block, the group in the frames, and the queue without it.
 -- Assumes nothing.
-use mathlib.Core.Path.{_≡_, refl, ap, subst}
+use mathlib.Core.Path.{refl, ap, subst}
 use Prim.Native.Nat.{ℕ}
 use lib.ListN.{length}
 use Rattle.table.specs.declared.Table.{Table}
 use Rattle.logging.specs.Logging.{Ready}
 use Rattle.logging.proofs.Blocks.{commit-stored}
 use Rattle.logging.proofs.Applied.{commits-by}
-use native.Mathlib.Omega.{arith}
 use borrow.Author.Needs.{needs}
 use Rattle.logging.proofs.store_commit.Statement.{statement}
 use Rattle.logging.proofs.store_commit.Tie as tie

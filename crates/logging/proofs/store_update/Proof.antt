@@ -1,6 +1,6 @@
 -- `logging::store_update` meets its contract: the staged update's fields and bytes are those of the block.
 -- Assumes nothing.
-use mathlib.Core.Path.{_≡_, refl, ap}
+use mathlib.Core.Path.{refl, ap}
 use Prim.Native.Nat.{ℕ, _*_}
 use Rattle.logging.specs.Logging.{Placed, stagedAt}
 use Rattle.logging.proofs.Blocks.{update-stored}

@@ -2,7 +2,6 @@
 -- Assumes nothing.
 use lib.ListN.{take}
 use Rattle.queue.proofs.Shifts.{left-idle, left-first, left-second, left-third}
-use native.Mathlib.Omega.{arith}
 use borrow.Author.Needs.{needs}
 use Rattle.queue.proofs.cleaning_left.Statement.{statement}
 use Rattle.queue.proofs.cleaning_left.Tie as tie

@@ -1,7 +1,6 @@
 -- `queue::committed` meets its contract.
 -- Assumes nothing.
 use Rattle.queue.proofs.Shifts.{committed-is}
-use native.Mathlib.Omega.{arith}
 use borrow.Author.Needs.{needs}
 use Rattle.queue.proofs.committed.Statement.{statement}
 use Rattle.queue.proofs.committed.Tie as tie

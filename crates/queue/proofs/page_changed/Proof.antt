@@ -1,6 +1,6 @@
 -- `queue::page_changed` meets its contract: what the loop has passed changes other pages.
 -- Assumes nothing.
-use Prim.Native.Nat.{_≤_, _-_, _+_}
+use Prim.Native.Nat.{_≤_, _-_}
 use mathlib.Core.Path.{_≡_, refl, sym, _∙_}
 use lib.ListN.{length, take}
 use Rattle.queue.specs.Queue.{changes}

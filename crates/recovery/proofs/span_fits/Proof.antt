@@ -1,5 +1,9 @@
 -- `recovery::span_fits` meets its contract: the sums of the table.
 -- Assumes nothing.
+use mathlib.Core.Path.{ap, _∙_}
+use Prim.Native.Nat.{ℕ, _+_, _-_}
+use lib.Dec.{leb}
+use Rattle.promises.specs.Sums.{firstGroups, smallest}
 use borrow.Author.Needs.{needs}
 use Rattle.recovery.proofs.span_fits.Statement.{statement}
 use Rattle.recovery.proofs.span_fits.Tie as tie
@@ -17,7 +21,10 @@ add-result : tie.Need-add-result
 add-result c = search needs
 
 returns : tie.Need-returns
-returns c = rw ((c .before) .oldest .ensures .0, c .dirty-pages .ensures .0)
+returns c =
+    let a = (c .before .before) .args in
+    ap (λ (k : ℕ). leb (a .next - k + c .dirty-pages .result) (a .slots)) ((c .before) .oldest .ensures .0)
+    ∙ ap (λ (d : ℕ). leb (a .next - smallest (a .next) (firstGroups (a .table .dirty)) + d) (a .slots)) (c .dirty-pages .ensures .0)
 
 pub span-fits-spec : {M : Type 1} → statement M
 span-fits-spec =

@@ -1,6 +1,6 @@
 -- `stepping::store` meets its contract: the slot lies within the log, and the loan of it leaves the block there.
 -- Assumes nothing.
-use Prim.Native.Nat.{_+_, _*_, _%_, _≤_}
+use Prim.Native.Nat.{_*_, _%_}
 use native.Mathlib.Nat.{mod-lt}
 use Rattle.area.proofs.Parts.{lent}
 use native.Mathlib.Omega.{arith}

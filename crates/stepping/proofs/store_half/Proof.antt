@@ -2,7 +2,6 @@
 -- Assumes nothing.
 use mathlib.Core.Path.{_∙_}
 use Rattle.area.proofs.Parts.{lent, from-to}
-use native.Mathlib.Omega.{arith}
 use borrow.Author.Needs.{needs}
 use Rattle.stepping.proofs.store_half.Statement.{statement}
 use Rattle.stepping.proofs.store_half.Tie as tie
