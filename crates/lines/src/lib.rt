@@ -5,7 +5,7 @@ ghost use mathlib.Core.Path.{_≡_};
 ghost use mathlib.Core.List.{_++_};
 ghost use Prim.Native.Nat.{_+_, _≤_};
 ghost use lib.ListN.{length};
-ghost use Rattle.lines.specs.Text.{decimal, field as fieldText, firstLine, kindText, blockLine, refusedLine, Adds, Shows};
+ghost use Rattle.lines.specs.Text.{decimal, newline, field as fieldText, firstLine, kindText, blockLine, refusedLine, Adds, Shows};
 
 // The most bytes of a line.
 pub const LINE: usize = 160;
@@ -41,6 +41,14 @@ fn add_field(out: &mut [u8], at: usize, word: &[u8], number: u64) -> usize
     add_number(out, end, number)
 }
 
+// Adds the newline.
+fn end_line(out: &mut [u8], at: usize) -> usize
+    requires { ⌜ at + 1 ≤ length (now out) ⌝ }
+    ensures { λ r. ⌜ Adds (now (out .entry)) at newline (now (out .exit)) r ⌝ }
+{
+    add_word(out, at, b"\n")
+}
+
 // Adds what a block's line says of its kind.
 fn add_kind(out: &mut [u8], at: usize, kind: Kind) -> usize
     requires { ⌜ at + 89 ≤ length (now out) ⌝ }
@@ -71,7 +79,7 @@ pub fn first_line(out: &mut [u8], slots: u64, newest: u64, keep: u64, ticket: u6
     let end = add_field(out, end, b" newest ", newest);
     let end = add_field(out, end, b" keep ", keep);
     let end = add_field(out, end, b" ticket ", ticket);
-    add_word(out, end, b"\n")
+    end_line(out, end)
 }
 
 // Writes the line of a block.
@@ -83,7 +91,7 @@ pub fn block_line(out: &mut [u8], block: Block) -> usize
     let kind = block.kind;
     let end = add_kind(out, end, kind);
     let end = add_field(out, end, b" ticket ", block.ticket);
-    add_word(out, end, b"\n")
+    end_line(out, end)
 }
 
 // Writes the line of a refusal and its place.
@@ -93,5 +101,5 @@ pub fn refused_line(out: &mut [u8], refusal: u64, place: u64) -> usize
 {
     let end = add_field(out, 0, b"refused ", refusal);
     let end = add_field(out, end, b" ", place);
-    add_word(out, end, b"\n")
+    end_line(out, end)
 }

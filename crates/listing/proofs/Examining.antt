@@ -1,12 +1,11 @@
 -- An examination of a log, from the scan of its slots, the search for a missing block and the walk without bytes.
 -- Assumes nothing.
-use mathlib.Core.Path.{_≡_, refl, sym, ap, _∙_, subst}
-use mathlib.Core.Bool.{Bool, true, false, cond, _&&_}
+use mathlib.Core.Path.{_≡_, sym, ap, _∙_, subst}
+use mathlib.Core.Bool.{Bool, true, false, cond}
 use mathlib.Core.List.{List, []}
 use Prim.Native.Nat.{ℕ, _+_, _-_, _*_, _/_, _^_, _≤_, _<_}
 use native.Mathlib.Omega.{arith}
 use native.Mathlib.Nat.{mod-lt}
-use lib.Dec.{eqb, leb}
 use lib.ListN.{length, getD}
 use borrow.Author.Tests.{eq-eqb, ne-eqb, le-leb}
 use Rattle.block.specs.Kind.{fieldsOf}
@@ -17,8 +16,8 @@ use Rattle.block.specs.declared.Kind.the-variants.{Update, Commit, Clean}
 use Rattle.block.proofs.Facts.{facts, Facts}
 use Rattle.promises.specs.Areas.{slotsIn}
 use Rattle.promises.specs.Blocks.{slotAt, slotsOf}
-use Rattle.promises.specs.Newest.{sequenceIn, newest, blocks, keepOf, allUnused, gathered}
-use Rattle.promises.specs.Walk.{Walk, Finding, stops, stands, finding}
+use Rattle.promises.specs.Newest.{sequenceIn, newest, blocks, allUnused}
+use Rattle.promises.specs.Walk.{stops, stands, finding}
 use Rattle.promises.proofs.Soundness.{and2}
 use Rattle.recovery.specs.declared.Scan.{Scan}
 use Rattle.recovery.specs.Log.{headerOf, blocksFrom}
@@ -28,7 +27,7 @@ use Rattle.outline.specs.Outline as outline
 use Rattle.outline.specs.Outline.{Outline, sketchOf, outlineIn, sketchIn, steps, ended, started, Indexed, Ordinary}
 use Rattle.outline.proofs.Turning.{sketch-going, sketch-refused}
 use Rattle.listing.specs.declared.Examined.{Examined}
-use Rattle.listing.specs.Listing.{found, shownLength, headersFrom, blocksShown, Accepts, Examines}
+use Rattle.listing.specs.Listing.{found, shownLength, headersFrom, blocksShown, Examines}
 use Rattle.listing.proofs.Finding.{
   from-stops,
   from-stands,

@@ -14,12 +14,12 @@ use Rattle.block.specs.declared.Block.{Block}
 use Rattle.block.specs.declared.Kind as format
 use Rattle.block.specs.declared.Kind.the-variants.{Update, Commit, Clean}
 use Rattle.promises.specs.Areas.{pageAt, slotsIn, pagesIn}
-use Rattle.promises.specs.Blocks.{LogBlock, Slot, unused, damaged, valid, kindIn, slotAt, slotsOf}
+use Rattle.promises.specs.Blocks.{Slot, unused, damaged, valid, kindIn, slotAt, slotsOf}
 use Rattle.promises.specs.DirtyPages.{keepFromOf}
-use Rattle.promises.specs.Newest.{sequenceIn, newest, keepIn, keepOf, Gathered, missing, blocks, gather, allUnused, gathered}
-use Rattle.promises.specs.Walk.{Walk, Finding, stops as findingStops, stands as findingStands, walkFrom, ending, finding, startWith}
+use Rattle.promises.specs.Newest.{sequenceIn, newest, keepIn, keepOf, missing, blocks, gather, allUnused, gathered}
+use Rattle.promises.specs.Walk.{Walk, Finding, stops as findingStops, stands as findingStands, walkFrom, finding, startWith}
 use Rattle.recovery.specs.Log.{headerOf, blockOf, blocksFrom, Legal}
-use Rattle.opening.proofs.Gathering.{stands-valid, stands-legal, newest-stands, keep-is, gather-all, finds-fresh, finds-damaged, finds-missing, finds-blocks}
+use Rattle.opening.proofs.Gathering.{stands-legal, newest-stands, keep-is, gather-all, finds-fresh, finds-damaged, finds-missing, finds-blocks}
 use Rattle.outline.specs.Outline.{
   Outline,
   Sketch,

@@ -1,3 +1,4 @@
 pub mod Finding
 pub mod Examining
 pub mod Showing
+pub mod AsOpen

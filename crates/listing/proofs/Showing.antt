@@ -1,30 +1,28 @@
 -- The lines of a log, by what its examination tells.
 -- Assumes nothing.
 use mathlib.Core.Path.{_≡_, refl, sym, ap, subst, _∙_}
-use mathlib.Core.Bool.{Bool, true, false, cond}
+use mathlib.Core.Bool.{Bool, true, cond}
 use mathlib.Core.List.{List, [], _∷_}
 use Prim.Native.Nat.{ℕ, zero, suc, _+_, _-_, _*_, _/_, _≤_, _<_}
 use native.Mathlib.Omega.{arith}
 use lib.ListN.{length, getD}
 use borrow.Author.Tests.{eq-eqb, ne-eqb}
-use Rattle.area.specs.Part.{part}
 use Rattle.area.proofs.Parts.{length-part}
 use Rattle.block.specs.Kind.{lengthOf, updateBlock}
 use Rattle.block.specs.Legal.{legal}
-use Rattle.block.specs.declared.Block.{Block}
 use Rattle.block.specs.declared.Kind as format
 use Rattle.block.specs.declared.Kind.the-variants.{Update, Commit, Clean}
 use Rattle.block.proofs.Facts.{facts, Facts}
 use Rattle.block.proofs.Tests.{tests}
 use Rattle.promises.specs.Areas.{slotsIn}
-use Rattle.promises.specs.Blocks.{LogBlock, fieldsOf, kindIn}
-use Rattle.promises.specs.Newest.{Gathered, blocks}
-use Rattle.promises.specs.Walk.{Finding, stops, stands}
+use Rattle.promises.specs.Blocks.{fieldsOf, kindIn}
+use Rattle.promises.specs.Newest.{Gathered}
+use Rattle.promises.specs.Walk.{stops}
 use Rattle.recovery.specs.Log.{bytesOf, headerOf, blockOf, blocksFrom}
 use Rattle.recovery.proofs.Scanning.{length-slot}
 use Rattle.lines.specs.Text.{firstLine, blockLine, lineOf, refusedLine, Shows}
 use Rattle.listing.specs.declared.Examined.{Examined}
-use Rattle.listing.specs.Listing.{shownLength, found, keepShown, gatheredIn, linesFrom, blockLines, linesIn, linesOf, blocksShown, Accepts, Examines}
+use Rattle.listing.specs.Listing.{shownLength, found, keepShown, linesFrom, blockLines, linesIn, linesOf, blocksShown, Accepts}
 
 -- ---- a block's line
 

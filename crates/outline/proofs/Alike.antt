@@ -1,19 +1,18 @@
 -- Open's walk with the bytes left out: it is the walk without bytes, so no refusal, no place, no ticket and no first group depends on home.
 -- Assumes nothing.
 use mathlib.Core.Path.{_≡_, refl, sym, ap, _∙_}
-use mathlib.Core.Bool.{Bool, true, false, cond, _&&_, _||_}
+use mathlib.Core.Bool.{Bool, true, false, cond}
 use mathlib.Core.List.{List, [], _∷_, _++_}
-use Prim.Native.Nat.{ℕ, zero, suc, _+_, _-_, min}
-use native.Mathlib.Numerals.{add-one}
+use Prim.Native.Nat.{ℕ, suc, _+_, _-_, min}
 use native.Mathlib.Omega.{arith}
-use lib.Dec.{eqb, leb, ltb}
+use lib.Dec.{eqb, leb}
 use lib.ListN.{length}
 use Rattle.block.specs.declared.Block.{Block}
 use Rattle.block.specs.declared.Kind as format
 use Rattle.block.specs.declared.Kind.the-variants as formats
 use Rattle.promises.specs.Areas.{pageAt}
 use Rattle.promises.specs.Updates.{Update}
-use Rattle.promises.specs.Blocks.{Kind, update, commit, clean, LogBlock, fieldsOf, slotsOf}
+use Rattle.promises.specs.Blocks.{Kind, update, commit, clean, LogBlock, slotsOf}
 use Rattle.promises.specs.DirtyPages.{DirtyPage, apply, applyAll, without, keepFromOf}
 use Rattle.promises.specs.Newest.{Gathered, missing, blocks, newest, keepOf, gathered}
 use Rattle.promises.specs.Walk.{
@@ -36,17 +35,14 @@ use Rattle.outline.specs.declared.Mark.{Mark}
 use Rattle.outline.specs.Marks.{marksOf, pagesOf, marked, markedAll, unmarked, earliest}
 use Rattle.outline.specs.Outline.{
   Outline,
-  Sketch,
   stops,
   stands,
   outlineOf,
   sketchOf,
   follows,
-  committed,
   seated,
   after,
   turned,
-  step,
   steps,
   ended,
 }

@@ -1,14 +1,14 @@
 -- One block of the walk without bytes: refused, or one place further.
 -- Assumes nothing.
-use mathlib.Core.Path.{_≡_, refl, sym, ap, _∙_}
-use mathlib.Core.Bool.{Bool, true, false, cond, _&&_, _||_}
-use mathlib.Core.List.{List, [], _∷_, _++_}
+use mathlib.Core.Path.{_≡_, sym, ap, _∙_}
+use mathlib.Core.Bool.{true, false, _&&_, _||_}
+use mathlib.Core.List.{[], _∷_, _++_}
 use Prim.Native.Nat.{ℕ, suc, _+_, _-_, _≤_, _<_}
 use native.Mathlib.Numerals.{add-one}
 use native.Mathlib.Omega.{arith}
-use lib.Dec.{eqb, leb, ltb}
+use lib.Dec.{eqb, ltb}
 use lib.ListN.{length}
-use borrow.Author.Tests.{eq-eqb, ne-eqb, eqb-true, eqb-false, lt-leb, le-leb}
+use borrow.Author.Tests.{eq-eqb, ne-eqb, eqb-true, lt-leb, le-leb}
 use Rattle.block.specs.Sizes.{sequenceEnd, groupMost}
 use Rattle.block.specs.declared.Block.{Block}
 use Rattle.block.specs.declared.Kind.{Kind}
@@ -17,10 +17,8 @@ use Rattle.promises.proofs.Soundness.{and-both}
 use Rattle.outline.specs.declared.Marks.{Marks}
 use Rattle.outline.specs.declared.Group.{Group}
 use Rattle.outline.specs.declared.Course.{Course}
-use Rattle.outline.specs.Marks.{marksIn, pagesIn, markedAll, unmarked, earliest}
+use Rattle.outline.specs.Marks.{marksIn, pagesIn, unmarked, earliest}
 use Rattle.outline.specs.Outline.{
-  Outline,
-  Sketch,
   stops,
   stands,
   follows,
@@ -34,7 +32,6 @@ use Rattle.outline.specs.Outline.{
   started,
   sketchIn,
   Bounded,
-  Ordinary,
   refusedAs,
   advancedTo,
   Turns,

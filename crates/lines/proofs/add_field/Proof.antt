@@ -1,26 +1,20 @@
-use Rattle.lines.proofs.Adding.{adds-both}
+-- `lines::add_field` meets its contract: a word, then a number.
+-- Assumes nothing.
 use native.Mathlib.Omega.{arith}
 use borrow.Author.Needs.{needs}
+use Rattle.lines.proofs.Adding.{adds-both}
 use Rattle.lines.proofs.add_field.Statement.{statement}
 use Rattle.lines.proofs.add_field.Tie as tie
-use Rattle.lines.proofs.add_field.Reads as reads
-use Rattle.lines.proofs.add_field.Lts as lts
-use Rattle.lines.proofs.add_number.Reads as add-number-reads
-use Rattle.lines.proofs.add_word.Reads as add-word-reads
 
--- src/lib.rt:40:9
 add-word-requires : tie.Need-add-word-requires
 add-word-requires c κs = search needs
 
--- src/lib.rt:41:5
 add-number-requires : tie.Need-add-number-requires
 add-number-requires c κs = search needs
 
--- src/lib.rt:36:1
 same-length : tie.Need-same-length
 same-length c = search needs
 
--- src/lib.rt:36:1
 returns : tie.Need-returns
 returns c =
     let a = (c .before .before .before .before .before .before) .add-word .ensures in

@@ -1,70 +1,54 @@
-use Rattle.lines.specs.Text.{kindText}
-use Rattle.lines.proofs.Adding.{adds-both, adds-as}
+-- `lines::add_kind` meets its contract, kind by kind.
+-- Assumes nothing.
 use native.Mathlib.Omega.{arith}
 use borrow.Author.Needs.{needs}
+use Rattle.lines.specs.Text.{kindText}
+use Rattle.lines.proofs.Adding.{adds-both, adds-as}
 use Rattle.lines.proofs.add_kind.Statement.{statement}
 use Rattle.lines.proofs.add_kind.Tie as tie
-use Rattle.lines.proofs.add_kind.Reads as reads
-use Rattle.lines.proofs.add_kind.Lts as lts
-use Rattle.lines.proofs.add_field.Reads as add-field-reads
 
--- src/lib.rt:51:13
 enum-known-kind : tie.Need-enum-known-kind
 enum-known-kind c = search needs
 
--- src/lib.rt:56:42
 slice-aggregate-add-field : tie.Need-slice-aggregate-add-field
 slice-aggregate-add-field c = search needs
 
--- src/lib.rt:56:17
 add-field-requires : tie.Need-add-field-requires
 add-field-requires c κs = search needs
 
--- src/lib.rt:57:43
 slice-aggregate-add-field-2 : tie.Need-slice-aggregate-add-field-2
 slice-aggregate-add-field-2 c = search needs
 
--- src/lib.rt:57:17
 add-field-requires-2 : tie.Need-add-field-requires-2
 add-field-requires-2 c κs = search needs
 
--- src/lib.rt:58:33
 slice-aggregate-add-field-3 : tie.Need-slice-aggregate-add-field-3
 slice-aggregate-add-field-3 c = search needs
 
--- src/lib.rt:58:13
 add-field-requires-3 : tie.Need-add-field-requires-3
 add-field-requires-3 c κs = search needs
 
--- src/lib.rt:60:24
 enum-known-kind-2 : tie.Need-enum-known-kind-2
 enum-known-kind-2 c = search needs
 
--- src/lib.rt:60:56
 slice-aggregate-add-field-4 : tie.Need-slice-aggregate-add-field-4
 slice-aggregate-add-field-4 c = search needs
 
--- src/lib.rt:60:37
 add-field-requires-4 : tie.Need-add-field-requires-4
 add-field-requires-4 c κs = search needs
 
--- src/lib.rt:61:23
 enum-known-kind-3 : tie.Need-enum-known-kind-3
 enum-known-kind-3 c = search needs
 
--- src/lib.rt:61:52
 slice-aggregate-add-field-5 : tie.Need-slice-aggregate-add-field-5
 slice-aggregate-add-field-5 c = search needs
 
--- src/lib.rt:61:33
 add-field-requires-5 : tie.Need-add-field-requires-5
 add-field-requires-5 c κs = search needs
 
--- src/lib.rt:45:1
 same-length : tie.Need-same-length
 same-length c = search needs
 
--- src/lib.rt:45:1
 returns : tie.Need-returns
 unfolding kindText
 returns c =
@@ -77,11 +61,9 @@ returns c =
       omega arith,
     )
 
--- src/lib.rt:45:1
 same-length-2 : tie.Need-same-length-2
 same-length-2 c = search needs
 
--- src/lib.rt:45:1
 returns-2 : tie.Need-returns-2
 unfolding kindText
 returns-2 c =
@@ -89,11 +71,9 @@ returns-2 c =
     let f = (c .before .before) .add-field4 .ensures in
     (adds-as kindText (a .out .now) (a .at) (a .kind) _ _ _ ((c .before .before .before .before .before .before) .kind2 .given .1) (f .0), omega arith)
 
--- src/lib.rt:45:1
 same-length-3 : tie.Need-same-length-3
 same-length-3 c = search needs
 
--- src/lib.rt:45:1
 returns-3 : tie.Need-returns-3
 unfolding kindText
 returns-3 c =

@@ -1,37 +1,29 @@
-use Rattle.lines.proofs.Decimal.{few-digits}
-use Rattle.lines.proofs.Adding.{adds-number}
+-- `lines::add_number` meets its contract: the kit's digits are the number in decimal.
+-- Assumes nothing.
 use native.Mathlib.Omega.{arith}
 use borrow.Author.Needs.{needs}
+use Rattle.lines.proofs.Decimal.{few-digits}
+use Rattle.lines.proofs.Adding.{adds-number}
 use Rattle.lines.proofs.add_number.Statement.{statement}
 use Rattle.lines.proofs.add_number.Tie as tie
-use Rattle.lines.proofs.add_number.Reads as reads
-use Rattle.lines.proofs.add_number.Lts as lts
-use Rattle.io.proofs.decimal.Reads as decimal-reads
-use Rattle.lines.proofs.add_word.Reads as add-word-reads
 
--- src/lib.rt:31:9
 decimal-requires : tie.Need-decimal-requires
 decimal-requires c κs = search needs
 
--- src/lib.rt:32:23
 array-share-prefix-digits : tie.Need-array-share-prefix-digits
 array-share-prefix-digits c = search needs
 
--- src/lib.rt:32:23
 slice-aggregate-add-word : tie.Need-slice-aggregate-add-word
 slice-aggregate-add-word c = search needs
 
--- src/lib.rt:32:5
 add-word-requires : tie.Need-add-word-requires
 add-word-requires c κs =
     let k = (c .before .before) .decimal in
     omega (arith, k .ensures .0 .1, few-digits (k .result) ((c .before .before .before .before .before) .args .number) (omega arith) (k .ensures .1 .0))
 
--- src/lib.rt:26:1
 same-length : tie.Need-same-length
 same-length c = search needs
 
--- src/lib.rt:26:1
 returns : tie.Need-returns
 returns c =
     let k = (c .before .before .before .before .before) .decimal in

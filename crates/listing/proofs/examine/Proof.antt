@@ -1,51 +1,39 @@
-use mathlib.Core.Path.{ap, subst}
+-- `listing::examine` meets its contract: a wrong length is refusal 1.
+-- Assumes nothing.
+use mathlib.Core.Path.{ap, subst, sym, _∙_}
 use Prim.Native.Nat.{ℕ, _*_, _≤_}
 use lib.ListN.{length}
 use lib.Seq.{length-take-le}
-use Rattle.listing.proofs.Showing.{shown-range}
-use mathlib.Core.Path.{_≡_, sym, _∙_}
 use borrow.Author.Tests.{not-true, not-false}
-use Rattle.listing.proofs.Examining.{refused-length}
-use native.Mathlib.Omega.{arith}
 use borrow.Author.Needs.{needs}
+use Rattle.listing.proofs.Showing.{shown-range}
+use Rattle.listing.proofs.Examining.{refused-length}
 use Rattle.listing.proofs.examine.Statement.{statement}
 use Rattle.listing.proofs.examine.Tie as tie
-use Rattle.listing.proofs.examine.Reads as reads
-use Rattle.listing.proofs.examine.Lts as lts
-use Rattle.listing.proofs.examine_slots.Reads as examine-slots-reads
-use Rattle.listing.proofs.length_fits.Reads as length-fits-reads
-use Rattle.listing.proofs.refused.Reads as refused-reads
 
--- src/lib.rt:118:9
 length-fits-requires : tie.Need-length-fits-requires
 length-fits-requires c κs = search needs
 
--- src/lib.rt:119:9
 refused-requires : tie.Need-refused-requires
 refused-requires c κs = search needs
 
--- src/lib.rt:119:9
 returns : tie.Need-returns
 returns c =
     let r = c .refused .ensures in
     refused-length ((c .before .before .before .before) .args .log .now) _ (sym ((c .before .before) .length-fits .ensures) ∙ not-true _ ((c .before) .if1 .taken)) (r .0) (r .1)
 
--- src/lib.rt:123:24
 array-borrow-prefix-sequences : tie.Need-array-borrow-prefix-sequences
 array-borrow-prefix-sequences c = (shown-range (length ((c .before .before .before) .args .log .now)) (sym ((c .before) .length-fits .ensures) ∙ not-false _ (c .if1 .left))) .2
 
--- src/lib.rt:123:24
 slice-aggregate-examine-slots : tie.Need-slice-aggregate-examine-slots
 slice-aggregate-examine-slots c = sym (length-take-le _ _ ((shown-range (length ((c .before .before .before .before) .args .log .now)) (sym ((c .before .before) .length-fits .ensures) ∙ not-false _ ((c .before) .if1 .left))) .2))
 
--- src/lib.rt:123:5
 examine-slots-requires : tie.Need-examine-slots-requires
 examine-slots-requires c κs =
     let range = (shown-range (length ((c .before .before .before .before) .args .log .now)) (sym ((c .before .before) .length-fits .ensures) ∙ not-false _ ((c .before) .if1 .left))) in
     let size = length-take-le _ _ (range .2) in
     (sym (range .0) ∙ ap (λ (n : ℕ). n * 512) (sym size), subst (λ (n : ℕ). 8 ≤ n) (sym size) (range .1), subst (λ (n : ℕ). n ≤ 128) (sym size) (range .2))
 
--- src/lib.rt:115:1
 returns-2 : tie.Need-returns-2
 returns-2 c = search needs
 

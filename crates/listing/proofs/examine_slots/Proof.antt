@@ -1,38 +1,27 @@
+-- `listing::examine_slots` meets its contract: no block, no valid one, one missing, a walk that is refused, or one that stands.
+-- Assumes nothing.
 use mathlib.Core.Path.{refl, sym, ap, subst, _∙_}
 use Prim.Native.Nat.{_+_, _-_, _<_}
+use native.Mathlib.Omega.{arith}
 use lib.ListN.{length}
+use borrow.Author.Needs.{needs}
 use Rattle.block.specs.Sizes.{sequenceEnd}
 use Rattle.block.specs.declared.Block.{Block}
 use Rattle.outline.specs.Outline.{steps, ended, started}
 use Rattle.listing.specs.Listing.{headersFrom}
 use Rattle.listing.proofs.Examining.{keep-range, ordinary-at, examines-fresh, examines-damaged, examines-lost, examines-refused, examines-accepted}
-use native.Mathlib.Omega.{arith}
-use borrow.Author.Needs.{needs}
 use Rattle.listing.proofs.examine_slots.Statement.{statement}
 use Rattle.listing.proofs.examine_slots.Tie as tie
-use Rattle.listing.proofs.examine_slots.Reads as reads
-use Rattle.listing.proofs.examine_slots.Lts as lts
-use Rattle.listing.proofs.fresh.Reads as fresh-reads
-use Rattle.listing.proofs.refused.Reads as refused-reads
-use Rattle.listing.proofs.walk_blocks.Reads as walk-blocks-reads
-use Rattle.outline.proofs.last_test.Reads as last-test-reads
-use Rattle.recovery.proofs.header.Reads as header-reads
-use Rattle.recovery.proofs.judge_all.Reads as judge-all-reads
-use Rattle.recovery.proofs.missing.Reads as missing-reads
 
--- src/lib.rt:86:9
 judge-all-requires : tie.Need-judge-all-requires
 judge-all-requires c κs = search needs
 
--- src/lib.rt:90:13
 fresh-requires : tie.Need-fresh-requires
 fresh-requires c κs = search needs
 
--- src/lib.rt:90:13
 same-length : tie.Need-same-length
 same-length c = search needs
 
--- src/lib.rt:90:13
 returns : tie.Need-returns
 returns c =
     let a = (c .before .before .before .before .before .before .before .before .before) .args in
@@ -42,15 +31,12 @@ returns c =
     let f = c .fresh .ensures in
     examines-fresh (a .log .now) (length (a .sequences .now)) (p .0) (p .1) (p .2) (j .result) (j .last .1 .1 .0) size (j .ensures) _ ((c .before) .if2 .taken) (f .0) (f .1) (f .2) (f .3)
 
--- src/lib.rt:92:9
 refused-requires : tie.Need-refused-requires
 refused-requires c κs = search needs
 
--- src/lib.rt:92:9
 same-length-2 : tie.Need-same-length-2
 same-length-2 c = search needs
 
--- src/lib.rt:92:9
 returns-2 : tie.Need-returns-2
 returns-2 c =
     let a = (c .before .before .before .before .before .before .before .before .before) .args in
@@ -60,11 +46,9 @@ returns-2 c =
     let r = c .refused .ensures in
     examines-damaged (a .log .now) (length (a .sequences .now)) (p .0) (p .1) (p .2) (j .result) (j .last .1 .1 .0) size (j .ensures) _ ((c .before .before) .if1 .taken) ((c .before) .if2 .left) (r .0) (r .1)
 
--- src/lib.rt:94:9
 header-requires : tie.Need-header-requires
 header-requires c κs = search needs
 
--- src/lib.rt:96:9
 missing-requires : tie.Need-missing-requires
 missing-requires c κs =
     let a = (c .before .before .before .before .before .before .before .before .before) .args in
@@ -78,15 +62,12 @@ missing-requires c κs =
     let range = keep-range (a .log .now) (length (a .sequences .now)) (p .0) (p .1) (p .2) (j .result) (j .last .1 .1 .0) size (j .ensures) some keep keep-is in
     (omega (arith, size), omega (arith, size), range .1, range .2)
 
--- src/lib.rt:98:9
 refused-requires-2 : tie.Need-refused-requires-2
 refused-requires-2 c κs = search needs
 
--- src/lib.rt:98:9
 same-length-3 : tie.Need-same-length-3
 same-length-3 c = search needs
 
--- src/lib.rt:98:9
 returns-3 : tie.Need-returns-3
 returns-3 c =
     let a = (c .before .before .before .before .before .before .before .before .before .before .before .before) .args in
@@ -100,11 +81,9 @@ returns-3 c =
     let r = c .refused2 .ensures in
     examines-lost (a .log .now) (length (a .sequences .now)) (p .0) (p .1) (p .2) (j .result) (j .last .1 .1 .0) size (j .ensures) some keep keep-is _ ((c .before .before) .missing .ensures) _ ((c .before) .if3 .taken) (r .0) (r .1)
 
--- src/lib.rt:100:9
 header-requires-2 : tie.Need-header-requires-2
 header-requires-2 c κs = search needs
 
--- src/lib.rt:101:37
 walk-blocks-requires : tie.Need-walk-blocks-requires
 walk-blocks-requires c κs =
     let a = (c .before .before .before .before .before .before .before .before .before .before .before .before) .args in
@@ -125,7 +104,6 @@ walk-blocks-requires c κs =
       plain,
     )
 
--- src/lib.rt:101:9
 last-test-requires : tie.Need-last-test-requires
 last-test-requires c κs =
     let a = (c .before .before .before .before .before .before .before .before .before .before .before .before .before) .args in
@@ -140,15 +118,12 @@ last-test-requires c κs =
     let w = c .walk-blocks in
     (w .ensures .1, w .ensures .2, omega (arith, w .ensures .3, range .2))
 
--- src/lib.rt:103:9
 refused-requires-3 : tie.Need-refused-requires-3
 refused-requires-3 c κs = search needs
 
--- src/lib.rt:103:9
 same-length-4 : tie.Need-same-length-4
 same-length-4 c = (c .before .before .before .before .before .before .before .before .before .before .before .before .before) .judge-all .kept .1 .1 .0
 
--- src/lib.rt:103:9
 returns-4 : tie.Need-returns-4
 returns-4 c =
     let a = (c .before .before .before .before .before .before .before .before .before .before .before .before .before .before .before .before .before) .args in
@@ -166,11 +141,9 @@ returns-4 c =
     let r = c .refused3 .ensures in
     examines-refused (a .log .now) (length (a .sequences .now)) (p .0) (p .1) (p .2) (j .result) (j .last .1 .1 .0) size (j .ensures) some keep keep-is _ ((c .before .before .before .before .before .before .before) .missing .ensures) ((c .before .before .before .before .before .before) .if3 .left) (t .result) walked _ ((c .before) .if4 .taken) (r .0) (r .1)
 
--- src/lib.rt:81:1
 same-length-5 : tie.Need-same-length-5
 same-length-5 c = (c .before .before .before .before .before .before .before .before .before .before .before .before) .judge-all .kept .1 .1 .0
 
--- src/lib.rt:81:1
 returns-5 : tie.Need-returns-5
 returns-5 c =
     let a = (c .before .before .before .before .before .before .before .before .before .before .before .before .before .before .before .before) .args in

@@ -1,53 +1,41 @@
+-- `listing::line` meets its contract: the line of a refusal, the first line, or the line of a block.
+-- Assumes nothing.
 use mathlib.Core.Path.{refl, ap, _∙_}
+use native.Mathlib.Omega.{arith}
 use lib.ListN.{length}
+use borrow.Author.Needs.{needs}
 use Rattle.lines.specs.Text.{blockLine}
 use Rattle.listing.proofs.Showing.{count-accepted, refused-shown, first-shown, block-shown, shown-range, shows-as}
-use native.Mathlib.Omega.{arith}
-use borrow.Author.Needs.{needs}
 use Rattle.listing.proofs.line.Statement.{statement}
 use Rattle.listing.proofs.line.Tie as tie
-use Rattle.listing.proofs.line.Reads as reads
-use Rattle.listing.proofs.line.Lts as lts
-use Rattle.lines.proofs.block_line.Reads as block-line-reads
-use Rattle.lines.proofs.first_line.Reads as first-line-reads
-use Rattle.lines.proofs.refused_line.Reads as refused-line-reads
-use Rattle.recovery.proofs.header.Reads as header-reads
 
--- src/lib.rt:127:9
 refused-line-requires : tie.Need-refused-line-requires
 refused-line-requires c κs = search needs
 
--- src/lib.rt:127:9
 same-length : tie.Need-same-length
 same-length c = search needs
 
--- src/lib.rt:127:9
 returns : tie.Need-returns
 returns c =
     let a = (c .before .before .before .before .before .before .before .before) .args in
     let p = (c .before .before .before .before .before .before .before .before) .pre in
     shows-as _ _ _ _ (refused-shown (a .log .now) (a .examined) (p .0 .refused ((c .before .before .before .before) .if1 .taken)) (a .index) (p .1)) ((c .before .before) .refused-line .ensures)
 
--- src/lib.rt:131:9
 first-line-requires : tie.Need-first-line-requires
 first-line-requires c κs = search needs
 
--- src/lib.rt:131:9
 same-length-2 : tie.Need-same-length-2
 same-length-2 c = search needs
 
--- src/lib.rt:131:9
 returns-2 : tie.Need-returns-2
 returns-2 c =
     let a = (c .before .before .before .before .before .before .before .before .before) .args in
     let p = (c .before .before .before .before .before .before .before .before .before) .pre in
     shows-as _ _ _ _ (first-shown (a .log .now) (a .examined) (p .0 .accepted ((c .before .before .before .before .before) .if1 .left) .1) (a .index) ((c .before .before .before .before) .if2 .taken)) ((c .before .before) .first-line .ensures)
 
--- src/lib.rt:133:56
 sub-header : tie.Need-sub-header
 sub-header c = search needs
 
--- src/lib.rt:133:39
 add-header : tie.Need-add-header
 add-header c =
     let a = (c .before .before .before .before .before .before) .args in
@@ -55,20 +43,16 @@ add-header c =
     let x = p .0 .accepted ((c .before .before) .if1 .left) .1 in
     omega (arith, p .1, count-accepted (a .log .now) (a .examined) x, x .blocksFew, x .keepMost, x .newestBelow)
 
--- src/lib.rt:133:9
 header-requires : tie.Need-header-requires
 header-requires c κs =
     omega (arith, shown-range (length ((c .before .before .before .before .before .before) .args .log .now)) ((c .before .before .before .before .before .before) .pre .0 .accepted ((c .before .before) .if1 .left) .0))
 
--- src/lib.rt:134:5
 block-line-requires : tie.Need-block-line-requires
 block-line-requires c κs = search needs
 
--- src/lib.rt:122:1
 same-length-3 : tie.Need-same-length-3
 same-length-3 c = search needs
 
--- src/lib.rt:122:1
 returns-3 : tie.Need-returns-3
 returns-3 c =
     let a = (c .before .before .before .before .before .before .before .before .before .before .before) .args in

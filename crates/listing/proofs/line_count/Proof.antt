@@ -1,30 +1,24 @@
-use Rattle.listing.proofs.Showing.{count-refused, count-accepted, shown-none, shown-some}
-use borrow.Author.Needs.{needs}
+-- `listing::line_count` meets its contract: one line where no block is shown.
+-- Assumes nothing.
 use native.Mathlib.Omega.{arith}
+use Rattle.listing.proofs.Showing.{count-refused, count-accepted, shown-none, shown-some}
 use Rattle.listing.proofs.line_count.Statement.{statement}
 use Rattle.listing.proofs.line_count.Tie as tie
-use Rattle.listing.proofs.line_count.Reads as reads
-use Rattle.listing.proofs.line_count.Lts as lts
 
--- src/lib.rt:132:9
 returns : tie.Need-returns
 returns c = count-refused ((c .before .before) .args .log .now) ((c .before .before) .args .examined) ((c .before .before) .pre .refused (c .if1 .taken))
 
--- src/lib.rt:135:9
 returns-2 : tie.Need-returns-2
 returns-2 c =
     let a = (c .before .before .before .before) .args in
     omega (arith, count-accepted (a .log .now) (a .examined) ((c .before .before .before .before) .pre .accepted ((c .before .before) .if1 .left) .1), shown-none (a .log .now) (a .examined) (c .if2 .taken))
 
--- src/lib.rt:137:6
 sub-result : tie.Need-sub-result
 sub-result c = omega (arith, (c .before .before .before .before .before) .pre .accepted ((c .before .before .before) .if1 .left) .1 .keepMost)
 
--- src/lib.rt:137:5
 add-result : tie.Need-add-result
 add-result c = omega (arith, (c .before .before .before .before .before) .pre .accepted ((c .before .before .before) .if1 .left) .1 .newestBelow)
 
--- src/lib.rt:127:1
 returns-3 : tie.Need-returns-3
 returns-3 c =
     let a = (c .before .before .before .before .before) .args in

@@ -1,18 +1,15 @@
+-- `listing::walk_blocks` meets its contract: what is left of the blocks from sequence s on.
+-- Assumes nothing.
 use mathlib.Core.Path.{_≡_, sym, ap, subst, _∙_}
 use Prim.Native.Nat.{_≤_, _-_, _+_}
+use native.Mathlib.Omega.{arith}
+use borrow.Author.Needs.{needs}
 use Rattle.block.specs.declared.Block.{Block}
 use Rattle.outline.specs.Outline.{step, steps, started, sketchIn, Bounded, Ordinary}
 use Rattle.listing.specs.Listing.{headersFrom}
 use Rattle.listing.proofs.Finding.{steps-next, steps-end}
-use borrow.Author.Needs.{needs}
-use native.Mathlib.Omega.{arith}
 use Rattle.listing.proofs.walk_blocks.Statement.{statement}
 use Rattle.listing.proofs.walk_blocks.Tie as tie
-use Rattle.listing.proofs.walk_blocks.Reads as reads
-use Rattle.listing.proofs.walk_blocks.Lts as lts
-use Rattle.outline.proofs.start.Reads as start-reads
-use Rattle.outline.proofs.turn.Reads as turn-reads
-use Rattle.recovery.proofs.header.Reads as header-reads
 
 abbrev Inv-loop : tie.InvT-loop
 Inv-loop log first last ticket course₀ s₀ course s =
@@ -22,36 +19,29 @@ Inv-loop log first last ticket course₀ s₀ course s =
 abbrev μ-loop : tie.MeasureT-loop
 μ-loop log first last ticket course₀ s₀ course s = last + 1 - s
 
--- src/lib.rt:58:9
 start-requires : tie.Need-start-requires Inv-loop μ-loop
 start-requires c κs = search needs
 
--- src/lib.rt:60:5
 loop-holds : tie.Need-loop-holds Inv-loop μ-loop
 loop-holds c =
     let a = (c .before .before) .args in
     let e = c .start .ensures in
     (omega arith, omega arith, e .1, omega (arith, e .2), omega (arith, e .2), ap (steps 32 (headersFrom (a .log .now) (a .first) (a .last + 1 - a .first))) (e .0))
 
--- src/lib.rt:61:40
 header-requires : tie.Need-header-requires Inv-loop μ-loop
 header-requires c κs = search needs
 
--- src/lib.rt:61:9
 turn-requires : tie.Need-turn-requires Inv-loop μ-loop
 turn-requires c κs =
     let l = (c .before .before) .loop in
     (l .inv .2, omega (arith, l .inv .4), subst Ordinary (sym (c .header .ensures)) ((c .before .before .before .before .before) .pre .5 (l .s) (l .inv .0) ((c .before) .loop-test .taken)))
 
--- src/lib.rt:62:9
 add-s : tie.Need-add-s Inv-loop μ-loop
 add-s c = search needs
 
--- src/lib.rt:60:5
 loop-less : tie.Need-loop-less Inv-loop μ-loop
 loop-less c = search needs
 
--- src/lib.rt:60:5
 loop-again : tie.Need-loop-again Inv-loop μ-loop
 loop-again c =
     let a = (c .before .before .before .before .before .before) .args in
@@ -66,7 +56,6 @@ loop-again c =
           (t .ensures .0 ∙ ap (λ (b : Block). step 32 b (sketchIn (l .course))) ((c .before) .header .ensures)) ∙ l .inv .5,
     )
 
--- src/lib.rt:54:1
 returns : tie.Need-returns Inv-loop μ-loop
 returns c =
     let a = (c .before .before .before .before) .args in

@@ -1,17 +1,16 @@
+-- `outline::earliest` meets its contract: the lowest so far, and the first groups from index i on.
+-- Assumes nothing.
 use mathlib.Core.Path.{_≡_, refl, sym, ap, _∙_}
-use mathlib.Core.List.{_++_}
-use Prim.Native.Nat.{ℕ, _≤_, _-_, _+_}
-use lib.ListN.{length, take}
-use Rattle.table.proofs.Scans.{length-mapped, rest}
 use mathlib.Core.Logic.{⊎-elim}
+use Prim.Native.Nat.{ℕ, _≤_, _-_, _+_}
+use native.Mathlib.Omega.{arith}
+use lib.ListN.{length, take}
+use borrow.Author.Needs.{needs}
+use Rattle.table.proofs.Scans.{length-mapped, rest}
 use Rattle.outline.specs.Marks.{earliest}
 use Rattle.outline.proofs.Marking.{earliest-lower, earliest-same, earliest-end}
-use borrow.Author.Needs.{needs}
-use native.Mathlib.Omega.{arith}
 use Rattle.outline.proofs.earliest.Statement.{statement}
 use Rattle.outline.proofs.earliest.Tie as tie
-use Rattle.outline.proofs.earliest.Reads as reads
-use Rattle.outline.proofs.earliest.Lts as lts
 
 abbrev Inv-loop : tie.InvT-loop
 Inv-loop own marks count low₀ i₀ low i = (i ≤ count) × (low ≤ own) × (earliest low (rest (marks .entries) count i) ≡ earliest own (take count (marks .entries)))
@@ -19,27 +18,21 @@ Inv-loop own marks count low₀ i₀ low i = (i ≤ count) × (low ≤ own) × (
 abbrev μ-loop : tie.MeasureT-loop
 μ-loop own marks count low₀ i₀ low i = count - i
 
--- src/lib.rt:124:5
 loop-holds : tie.Need-loop-holds Inv-loop μ-loop
 loop-holds c = (search needs, search needs, refl)
 
--- src/lib.rt:125:21
 mul-entry : tie.Need-mul-entry Inv-loop μ-loop
 mul-entry c = search needs
 
--- src/lib.rt:125:21
 element-copy-out-entry : tie.Need-element-copy-out-entry Inv-loop μ-loop
 element-copy-out-entry c = search needs
 
--- src/lib.rt:129:9
 add-i : tie.Need-add-i Inv-loop μ-loop
 add-i c = search needs
 
--- src/lib.rt:124:5
 loop-less : tie.Need-loop-less Inv-loop μ-loop
 loop-less c = search needs
 
--- src/lib.rt:124:5
 loop-again : tie.Need-loop-again Inv-loop μ-loop
 loop-again c =
     let a = (c .before .before .before .before .before) .args in
@@ -51,7 +44,6 @@ loop-again c =
     (λ w. (omega arith, omega arith, ap low (w .1) ∙ earliest-same (a .t1 .entries) (a .t1 .count) (l .i) (l .low) (omega arith) (omega arith) (w .0 .left) ∙ l .inv .2))
     (c .if1 .came)
 
--- src/lib.rt:117:1
 returns : tie.Need-returns Inv-loop μ-loop
 returns c =
     let a = (c .before .before) .args in

@@ -1,16 +1,15 @@
-use mathlib.Core.Path.{_≡_, refl, sym, ap, _∙_}
+-- `outline::mark_group` meets its contract: what is left of the group's pages from index i on.
+-- Assumes nothing.
+use mathlib.Core.Path.{_≡_, refl, sym, _∙_}
 use Prim.Native.Nat.{_≤_, _-_, _+_}
+use native.Mathlib.Omega.{arith}
 use lib.ListN.{length, take}
-use Rattle.table.proofs.Scans.{length-mapped, rest}
+use borrow.Author.Needs.{needs}
+use Rattle.table.proofs.Scans.{rest}
 use Rattle.outline.specs.Marks.{marksIn, markedAll}
 use Rattle.outline.proofs.Marking.{group-next, group-end}
-use borrow.Author.Needs.{needs}
-use native.Mathlib.Omega.{arith}
 use Rattle.outline.proofs.mark_group.Statement.{statement}
 use Rattle.outline.proofs.mark_group.Tie as tie
-use Rattle.outline.proofs.mark_group.Reads as reads
-use Rattle.outline.proofs.mark_group.Lts as lts
-use Rattle.outline.proofs.mark_page.Reads as mark-page-reads
 
 abbrev Inv-loop : tie.InvT-loop
 Inv-loop group count m₀ i₀ m i =
@@ -19,31 +18,24 @@ Inv-loop group count m₀ i₀ m i =
 abbrev μ-loop : tie.MeasureT-loop
 μ-loop group count m₀ i₀ m i = count - i
 
--- src/lib.rt:88:5
 loop-holds : tie.Need-loop-holds Inv-loop μ-loop
 loop-holds c = (search needs, search needs, refl)
 
--- src/lib.rt:89:26
 mul-mark-page : tie.Need-mul-mark-page Inv-loop μ-loop
 mul-mark-page c = search needs
 
--- src/lib.rt:89:26
 element-copy-out-mark-page : tie.Need-element-copy-out-mark-page Inv-loop μ-loop
 element-copy-out-mark-page c = search needs
 
--- src/lib.rt:89:9
 mark-page-requires : tie.Need-mark-page-requires Inv-loop μ-loop
 mark-page-requires c κs = search needs
 
--- src/lib.rt:90:9
 add-i : tie.Need-add-i Inv-loop μ-loop
 add-i c = search needs
 
--- src/lib.rt:88:5
 loop-less : tie.Need-loop-less Inv-loop μ-loop
 loop-less c = search needs
 
--- src/lib.rt:88:5
 loop-again : tie.Need-loop-again Inv-loop μ-loop
 loop-again c =
     let a = (c .before .before .before .before) .args in
@@ -52,7 +44,6 @@ loop-again c =
     let m = c .mark-page in
     (omega arith, omega (arith, m .ensures .1), group-next (a .t2 .start) (a .t2 .pages) (a .t2 .count) (l .i) (marksIn (l .m)) (marksIn (m .result)) (omega arith) (omega arith) (m .ensures .0) ∙ l .inv .2)
 
--- src/lib.rt:81:1
 returns : tie.Need-returns Inv-loop μ-loop
 returns c =
     let a = (c .before .before) .args in

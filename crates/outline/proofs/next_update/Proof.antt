@@ -1,31 +1,22 @@
-use mathlib.Core.Path.{_≡_, refl, sym, ap, _∙_}
-use lib.ListN.{length}
-use lib.Seq.{length-take-le}
-use borrow.Author.Tests.{not-true, not-false, ne-eqb, eq-eqb, lt-leb, le-leb}
-use Rattle.block.specs.declared.Kind.the-variants.{Update, Commit, Clean}
-use Rattle.table.proofs.Scans.{length-mapped}
-use Rattle.outline.specs.Marks.{marksIn, pagesIn}
-use Rattle.outline.proofs.Marking.{take-put}
+-- `outline::next_update` meets its contract: one more page behind the first.
+-- Assumes nothing.
+use mathlib.Core.Path.{_≡_, refl}
 use native.Mathlib.Omega.{arith}
+use lib.ListN.{length}
 use borrow.Author.Needs.{needs}
+use Rattle.outline.proofs.Marking.{take-put}
 use Rattle.outline.proofs.next_update.Statement.{statement}
 use Rattle.outline.proofs.next_update.Tie as tie
-use Rattle.outline.proofs.next_update.Reads as reads
-use Rattle.outline.proofs.next_update.Lts as lts
 
--- src/lib.rt:165:5
 mul-g : tie.Need-mul-g
 mul-g c = search needs
 
--- src/lib.rt:165:5
 element-write-g : tie.Need-element-write-g
 element-write-g c = search needs
 
--- src/lib.rt:166:15
 add-g : tie.Need-add-g
 add-g c = search needs
 
--- src/lib.rt:159:1
 returns : tie.Need-returns
 returns c =
     let long : length (c .args .group .pages) ≡ 16 = search needs in

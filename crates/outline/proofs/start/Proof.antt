@@ -1,18 +1,15 @@
+-- `outline::start` meets its contract.
+-- Assumes nothing.
 use mathlib.Core.Path.{refl}
-use Rattle.outline.proofs.Turning.{starts}
 use native.Mathlib.Omega.{arith}
 use borrow.Author.Needs.{needs}
+use Rattle.outline.proofs.Turning.{starts}
 use Rattle.outline.proofs.start.Statement.{statement}
 use Rattle.outline.proofs.start.Tie as tie
-use Rattle.outline.proofs.start.Reads as reads
-use Rattle.outline.proofs.start.Lts as lts
-use Rattle.outline.proofs.no_group.Reads as no-group-reads
 
--- src/lib.rt:271:16
 no-group-requires : tie.Need-no-group-requires
 no-group-requires c κs = search needs
 
--- src/lib.rt:263:1
 returns : tie.Need-returns
 returns c =
     let g = c .no-group .ensures in

@@ -1,32 +1,21 @@
-use mathlib.Core.Path.{_≡_, sym, ap, subst}
-use lib.ListN.{length}
-use lib.Seq.{length-take-le}
-use borrow.Author.Tests.{not-true, not-false, ne-eqb, eq-eqb, lt-leb, le-leb}
+-- `outline::turn` meets its contract, kind by kind; a walk that is refused stays.
+-- Assumes nothing.
+use mathlib.Core.Path.{sym, ap, subst}
+use native.Mathlib.Omega.{arith}
+use borrow.Author.Needs.{needs}
 use Rattle.block.specs.declared.Kind.the-variants.{Update, Commit, Clean}
-use Rattle.table.proofs.Scans.{length-mapped}
-use Rattle.outline.specs.Marks.{marksIn, pagesIn}
 use Rattle.block.specs.declared.Kind.{Kind}
 use Rattle.outline.specs.Outline.{Indexed, follows, seated, after, turned, outlineIn}
 use Rattle.outline.proofs.Turning.{step-stops, step-turns}
-use native.Mathlib.Omega.{arith}
-use borrow.Author.Needs.{needs}
 use Rattle.outline.proofs.turn.Statement.{statement}
 use Rattle.outline.proofs.turn.Tie as tie
-use Rattle.outline.proofs.turn.Reads as reads
-use Rattle.outline.proofs.turn.Lts as lts
-use Rattle.outline.proofs.walk_clean.Reads as walk-clean-reads
-use Rattle.outline.proofs.walk_commit.Reads as walk-commit-reads
-use Rattle.outline.proofs.walk_update.Reads as walk-update-reads
 
--- src/lib.rt:247:9
 returns : tie.Need-returns
 returns c = (step-stops ((c .before .before) .args .block) ((c .before .before) .args .course) (c .if1 .taken), (c .before .before) .pre .0, omega arith, omega arith)
 
--- src/lib.rt:252:13
 enum-known-kind : tie.Need-enum-known-kind
 enum-known-kind c = search needs
 
--- src/lib.rt:256:14
 walk-update-requires : tie.Need-walk-update-requires
 walk-update-requires c κs =
     let p = (c .before .before .before .before .before) .pre in
@@ -38,23 +27,18 @@ walk-update-requires c κs =
       ticketBelow = p .2 .ticketBelow;
     }
 
--- src/lib.rt:257:24
 enum-known-kind-2 : tie.Need-enum-known-kind-2
 enum-known-kind-2 c = search needs
 
--- src/lib.rt:257:37
 walk-commit-requires : tie.Need-walk-commit-requires
 walk-commit-requires c κs = search needs
 
--- src/lib.rt:258:23
 enum-known-kind-3 : tie.Need-enum-known-kind-3
 enum-known-kind-3 c = search needs
 
--- src/lib.rt:258:33
 walk-clean-requires : tie.Need-walk-clean-requires
 walk-clean-requires c κs = search needs
 
--- src/lib.rt:242:1
 returns-2 : tie.Need-returns-2
 unfolding turned follows seated after
 returns-2 c =
@@ -63,7 +47,6 @@ returns-2 c =
     (ap (λ (k : Kind). turned 32 k (a .block .ticket) (a .course .place) (outlineIn (a .course))) (sym ((c .before .before) .kind .given .1)))
     (c .walk-update .ensures)
 
--- src/lib.rt:242:1
 returns-3 : tie.Need-returns-3
 unfolding turned follows seated after
 returns-3 c =
@@ -72,7 +55,6 @@ returns-3 c =
     (ap (λ (k : Kind). turned 32 k (a .block .ticket) (a .course .place) (outlineIn (a .course))) (sym ((c .before .before) .kind2 .given .1)))
     (c .walk-commit .ensures)
 
--- src/lib.rt:242:1
 returns-4 : tie.Need-returns-4
 unfolding turned follows seated after
 returns-4 c =

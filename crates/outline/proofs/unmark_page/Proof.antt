@@ -1,19 +1,19 @@
-use Rattle.outline.specs.declared.Mark.{Mark}
-use Rattle.outline.specs.declared.Marks.{Marks}
+-- `outline::unmark_page` meets its contract: the pages kept, and those from index i on.
+-- Assumes nothing.
 use mathlib.Core.Path.{_≡_, refl, sym, ap, _∙_}
 use mathlib.Core.List.{List, _++_, append-nil}
-use Prim.Native.Nat.{_≤_, _-_, _+_}
-use lib.ListN.{length, take}
-use Rattle.table.proofs.Scans.{length-mapped, rest}
 use mathlib.Core.Logic.{⊎-elim}
+use Prim.Native.Nat.{_≤_, _-_}
+use native.Mathlib.Omega.{arith}
+use lib.ListN.{length, take}
+use borrow.Author.Needs.{needs}
+use Rattle.table.proofs.Scans.{length-mapped, rest}
+use Rattle.outline.specs.declared.Mark.{Mark}
+use Rattle.outline.specs.declared.Marks.{Marks}
 use Rattle.outline.specs.Marks.{unmarked}
 use Rattle.outline.proofs.Marking.{turn-keep, turn-drop, unmarked-end}
-use borrow.Author.Needs.{needs}
-use native.Mathlib.Omega.{arith}
 use Rattle.outline.proofs.unmark_page.Statement.{statement}
 use Rattle.outline.proofs.unmark_page.Tie as tie
-use Rattle.outline.proofs.unmark_page.Reads as reads
-use Rattle.outline.proofs.unmark_page.Lts as lts
 
 abbrev Inv-loop : tie.InvT-loop
 Inv-loop page marks count m₀ kept₀ i₀ m kept i =
@@ -22,39 +22,30 @@ Inv-loop page marks count m₀ kept₀ i₀ m kept i =
 abbrev μ-loop : tie.MeasureT-loop
 μ-loop page marks count m₀ kept₀ i₀ m kept i = count - i
 
--- src/lib.rt:104:5
 loop-holds : tie.Need-loop-holds Inv-loop μ-loop
 loop-holds c = (search needs, search needs, search (needs, length-mapped), refl)
 
--- src/lib.rt:105:21
 mul-entry : tie.Need-mul-entry Inv-loop μ-loop
 mul-entry c = search needs
 
--- src/lib.rt:105:21
 element-copy-out-entry : tie.Need-element-copy-out-entry Inv-loop μ-loop
 element-copy-out-entry c = search needs
 
--- src/lib.rt:107:13
 mul-entry-2 : tie.Need-mul-entry-2 Inv-loop μ-loop
 mul-entry-2 c = search needs
 
--- src/lib.rt:107:13
 element-set-from-entry : tie.Need-element-set-from-entry Inv-loop μ-loop
 element-set-from-entry c = search needs
 
--- src/lib.rt:108:13
 add-kept : tie.Need-add-kept Inv-loop μ-loop
 add-kept c = search needs
 
--- src/lib.rt:110:9
 add-i : tie.Need-add-i Inv-loop μ-loop
 add-i c = search needs
 
--- src/lib.rt:104:5
 loop-less : tie.Need-loop-less Inv-loop μ-loop
 loop-less c = search needs
 
--- src/lib.rt:104:5
 loop-again : tie.Need-loop-again Inv-loop μ-loop
 loop-again c =
     let a = (c .before .before .before .before .before) .args in
@@ -67,7 +58,6 @@ loop-again c =
     (omega arith, omega (arith, w .2), t .0, t .1))
     (c .if1 .came)
 
--- src/lib.rt:96:1
 returns : tie.Need-returns Inv-loop μ-loop
 returns c =
     let a = (c .before .before) .args in

@@ -1,47 +1,33 @@
-use mathlib.Core.Path.{_≡_, refl, sym, ap, _∙_}
-use lib.ListN.{length}
-use lib.Seq.{length-take-le}
-use borrow.Author.Tests.{not-true, not-false, ne-eqb, eq-eqb, lt-leb, le-leb}
-use Rattle.block.specs.declared.Kind.the-variants.{Update, Commit, Clean}
-use Rattle.table.proofs.Scans.{length-mapped}
-use Rattle.outline.specs.Marks.{marksIn, pagesIn}
+-- `outline::walk_clean` meets its contract: out of order, or one place further.
+-- Assumes nothing.
+use mathlib.Core.Path.{refl}
+use native.Mathlib.Omega.{arith}
+use borrow.Author.Tests.{ne-eqb, eq-eqb}
+use borrow.Author.Needs.{needs}
+use Rattle.block.specs.declared.Kind.the-variants.{Clean}
 use Rattle.outline.specs.Outline.{follows, seated}
 use Rattle.outline.proofs.Turning.{turned-out, turned-on, after-clean}
-use native.Mathlib.Omega.{arith}
-use borrow.Author.Needs.{needs}
 use Rattle.outline.proofs.walk_clean.Statement.{statement}
 use Rattle.outline.proofs.walk_clean.Tie as tie
-use Rattle.outline.proofs.walk_clean.Reads as reads
-use Rattle.outline.proofs.walk_clean.Lts as lts
-use Rattle.outline.proofs.advanced.Reads as advanced-reads
-use Rattle.outline.proofs.no_group.Reads as no-group-reads
-use Rattle.outline.proofs.refused.Reads as refused-reads
-use Rattle.outline.proofs.unmark_page.Reads as unmark-page-reads
 
--- src/lib.rt:236:9
 refused-requires : tie.Need-refused-requires
 refused-requires c κs = search needs
 
--- src/lib.rt:236:9
 returns : tie.Need-returns
 unfolding follows
 returns c =
     let a = (c .before .before .before .before) .args in
     turned-out (a .course) (Clean (a .page)) (a .ticket) ((c .before .before .before .before) .pre .bounded) _ (c .refused .ensures) (ne-eqb _ _ ((c .before) .if1 .taken))
 
--- src/lib.rt:238:30
 no-group-requires : tie.Need-no-group-requires
 no-group-requires c κs = search needs
 
--- src/lib.rt:238:42
 unmark-page-requires : tie.Need-unmark-page-requires
 unmark-page-requires c κs = search needs
 
--- src/lib.rt:238:5
 advanced-requires : tie.Need-advanced-requires
 advanced-requires c κs = search needs
 
--- src/lib.rt:230:1
 returns-2 : tie.Need-returns-2
 unfolding follows seated
 returns-2 c =

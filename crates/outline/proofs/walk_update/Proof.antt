@@ -1,52 +1,41 @@
-use mathlib.Core.Path.{_≡_, refl, sym, ap, _∙_}
+-- `outline::walk_update` meets its contract: out of order, a new group, or the next of a half group.
+-- Assumes nothing.
+use mathlib.Core.Path.{_≡_, refl, _∙_}
+use native.Mathlib.Omega.{arith}
 use lib.ListN.{length}
 use lib.Seq.{length-take-le}
-use borrow.Author.Tests.{not-true, not-false, ne-eqb, eq-eqb, lt-leb, le-leb}
-use Rattle.block.specs.declared.Kind.the-variants.{Update, Commit, Clean}
-use Rattle.table.proofs.Scans.{length-mapped}
-use Rattle.outline.specs.Marks.{marksIn, pagesIn}
+use borrow.Author.Tests.{not-true, not-false}
+use borrow.Author.Needs.{needs}
+use Rattle.block.specs.declared.Kind.the-variants.{Update}
+use Rattle.outline.specs.Marks.{pagesIn}
 use Rattle.outline.specs.Outline.{seated}
 use Rattle.outline.proofs.Turning.{turned-out, turned-on, follows-update, next-index, update-ticket, after-first, after-next}
-use native.Mathlib.Omega.{arith}
-use borrow.Author.Needs.{needs}
 use Rattle.outline.proofs.walk_update.Statement.{statement}
 use Rattle.outline.proofs.walk_update.Tie as tie
-use Rattle.outline.proofs.walk_update.Reads as reads
-use Rattle.outline.proofs.walk_update.Lts as lts
-use Rattle.outline.proofs.advanced.Reads as advanced-reads
-use Rattle.outline.proofs.first_update.Reads as first-update-reads
-use Rattle.outline.proofs.next_update.Reads as next-update-reads
-use Rattle.outline.proofs.refused.Reads as refused-reads
 
 size-at : (c : tie.Start) → length (pagesIn (c .args .course .group)) ≡ c .args .course .group .count
 size-at c =
     let long : length (c .args .course .group .pages) ≡ 16 = search needs in
     length-take-le _ _ (omega (arith, c .pre .bounded .few))
 
--- src/lib.rt:200:46
 add-next : tie.Need-add-next
 add-next c = search needs
 
--- src/lib.rt:203:9
 refused-requires : tie.Need-refused-requires
 refused-requires c κs = search needs
 
--- src/lib.rt:203:9
 returns : tie.Need-returns
 returns c =
     let a = (c .before .before .before .before .before .before .before) .args in
     turned-out (a .course) (Update (a .index) (a .page) 0 0) (a .ticket) ((c .before .before .before .before .before .before .before) .pre .bounded) _ (c .refused .ensures)
     (follows-update (a .course) (size-at (c .before .before .before .before .before .before .before)) (a .index) (a .page) (a .ticket) ∙ not-true _ ((c .before) .if1 .taken))
 
--- src/lib.rt:206:41
 first-update-requires : tie.Need-first-update-requires
 first-update-requires c κs = search needs
 
--- src/lib.rt:206:9
 advanced-requires : tie.Need-advanced-requires
 advanced-requires c κs = search needs
 
--- src/lib.rt:206:9
 returns-2 : tie.Need-returns-2
 unfolding seated
 returns-2 c =
@@ -59,17 +48,14 @@ returns-2 c =
     (after-first (a .course) (a .ticket) (f .result) (a .index) (a .page) ((c .before .before) .if2 .taken) (update-ticket (a .index) (a .course .group .count) (a .ticket) (a .course .ticket) right) (f .ensures .0) (f .ensures .1))
     (omega (arith, f .ensures .2)) (p .bounded .framed) (p .ticketBelow)
 
--- src/lib.rt:208:30
 next-update-requires : tie.Need-next-update-requires
 next-update-requires c κs =
     let a = (c .before .before .before .before .before .before .before) .args in
     omega (arith, next-index (a .index) (a .course .group .count) (a .ticket) (a .course .ticket) (not-false _ ((c .before) .if1 .left)) (c .if2 .left), (c .before .before .before .before .before .before .before) .pre .indexed)
 
--- src/lib.rt:208:5
 advanced-requires-2 : tie.Need-advanced-requires-2
 advanced-requires-2 c κs = search needs
 
--- src/lib.rt:194:1
 returns-3 : tie.Need-returns-3
 unfolding seated
 returns-3 c =
