@@ -5,6 +5,8 @@ mod book;
 mod calls;
 mod cases;
 mod coverage;
+#[cfg(test)]
+mod listings;
 mod logshow;
 mod random;
 mod recovery;
