@@ -144,7 +144,7 @@ beside-step k P F j m home b t v ts ss r d = record {
   tells = λ p. tells-step home p j b v (ss p) (d .tells p);
   ticket = tick b;
   updatesOf = us b r;
-  pages = pg b;
+  pages = pageFacts b;
   distinct = ds b;
 }
   where
@@ -154,8 +154,8 @@ beside-step k P F j m home b t v ts ss r d = record {
     us : (b : Kind) → Right F P j m ts b t → Ups P (walkBlock home j b v .group)
     us b r = step-updates F P j m t home b v ts r (d .updatesOf)
 
-    pg : (b : Kind) → Pages P (walkBlock home j b v .dirtyPages)
-    pg b = step-pages P j home b v (d .updatesOf) (d .pages)
+    pageFacts : (b : Kind) → Pages P (walkBlock home j b v .dirtyPages)
+    pageFacts b = step-pages P j home b v (d .updatesOf) (d .pages)
 
     ds : (b : Kind) → Distinct (walkBlock home j b v .dirtyPages)
     ds b = step-distinct home j b v (d .distinct)

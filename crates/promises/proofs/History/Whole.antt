@@ -51,7 +51,7 @@ pub record Runs (z : Sizes) (home : ℕ → List ℕ) (b : Book) (history : List
 
 -- D is the count of dirty pages
 pub count-dirty : (z : Sizes) (home : ℕ → List ℕ) (b : Book) (history : List LogBlock) (l : Live) → Alive history home l b → Pages (z .P) (l .dirtyPages) → tally (z .P) (dirtyOf history) ≡ length (l .dirtyPages)
-count-dirty z home b history l a pg = tally-same (z .P) (dirtyOf history) (λ p. here (lookUp p (l .dirtyPages))) (λ p. sym (sees-here (a .sees p))) ∙ tally-lookUp (z .P) (l .dirtyPages) (a .distinct) pg
+count-dirty z home b history l a pageFacts = tally-same (z .P) (dirtyOf history) (λ p. here (lookUp p (l .dirtyPages))) (λ p. sym (sees-here (a .sees p))) ∙ tally-lookUp (z .P) (l .dirtyPages) (a .distinct) pageFacts
 
 updates-at : (P : ℕ) (g : List Update) (n : ℕ) → n < length g → Ups P g → getD g n noUpdate .page < P
 updates-at P [] n h a = absurd (omega arith)
@@ -134,74 +134,74 @@ module _ (z : Sizes) (log : List Slot) (home : ℕ → List ℕ) (b : Book) (his
   abbrev w₁ : World
   w₁ = record { history = history; home = home; live = up l }
 
-  abbrev ublk : List Update → LogBlock
-  ublk g = record { kind = update (l .count + 1) (getD g (l .count) noUpdate); keepFrom = keepFromOf (length history + 1 - l .count) (l .dirtyPages); ticket = l .ticket }
+  abbrev updateBlock : List Update → LogBlock
+  updateBlock g = record { kind = update (l .count + 1) (getD g (l .count) noUpdate); keepFrom = keepFromOf (length history + 1 - l .count) (l .dirtyPages); ticket = l .ticket }
 
-  abbrev ulive : Live
-  ulive = record { ticket = l .ticket; queue = l .queue; count = l .count + 1; dirtyPages = l .dirtyPages; cleaning = l .cleaning }
+  abbrev liveAfterUpdate : Live
+  liveAfterUpdate = record { ticket = l .ticket; queue = l .queue; count = l .count + 1; dirtyPages = l .dirtyPages; cleaning = l .cleaning }
 
   -- UPDATE
   pub kept-update : (g : List Update) (q : List (List Update)) → l .queue ≡ g ∷ q → l .count < length g → Room z (length history + 1) l g
-      → Kept z (store (z .N) (length history + 1) (ublk g) log) home (counted b) (history ++ (ublk g ∷ [])) × Runs z home (counted b) (history ++ (ublk g ∷ [])) (length history + 2) ulive
+      → Kept z (store (z .N) (length history + 1) (updateBlock g) log) home (counted b) (history ++ (updateBlock g ∷ [])) × Runs z home (counted b) (history ++ (updateBlock g ∷ [])) (length history + 2) liveAfterUpdate
   unfolding updateLogged
   kept-update g q e h rm =
       let i : Inv (updateLogged w₁ l g) (counted b) = invariant-update w₁ l b g q (k .disk) (r .alive) e h in
-      let a : Alive (history ++ (ublk g ∷ [])) home ulive (counted b) = i .lives in
-      let cd : tally (z .P) (dirtyOf (history ++ (ublk g ∷ []))) ≡ length (l .dirtyPages) = count-dirty z home (counted b) (history ++ (ublk g ∷ [])) ulive a (r .pages) in
+      let a : Alive (history ++ (updateBlock g ∷ [])) home liveAfterUpdate (counted b) = i .lives in
+      let cd : tally (z .P) (dirtyOf (history ++ (updateBlock g ∷ []))) ≡ length (l .dirtyPages) = count-dirty z home (counted b) (history ++ (updateBlock g ∷ [])) liveAfterUpdate a (r .pages) in
       let pq : UpsQ (z .P) (g ∷ q) = rw e at (r .places) in (
-        grown z log home b history l big k r (ublk g) (counted b) home
+        grown z log home b history l big k r (updateBlock g) (counted b) home
             (index-right history (b .m) (l .count) (l .queue) (r .alive .half), updates-at (z .P) g (l .count) h (pq .0), r .alive .ticket)
             (omega arith) (i .disk) (omega (arith, cd, rm .slots)),
-        record { next = omega (arith, length-append history (ublk g ∷ [])); alive = a; pages = r .pages; places = r .places },
+        record { next = omega (arith, length-append history (updateBlock g ∷ [])); alive = a; pages = r .pages; places = r .places },
       )
 
-  abbrev cblk : List Update → LogBlock
-  cblk g = record { kind = commit (length g); keepFrom = keepFromOf (length history + 1 - l .count) (l .dirtyPages); ticket = l .ticket + 1 }
+  abbrev commitBlock : List Update → LogBlock
+  commitBlock g = record { kind = commit (length g); keepFrom = keepFromOf (length history + 1 - l .count) (l .dirtyPages); ticket = l .ticket + 1 }
 
-  abbrev clive : List Update → List (List Update) → Live
-  clive g q = record { ticket = l .ticket + 1; queue = q; count = 0; dirtyPages = applyAll (length history + 1 - l .count) home g (l .dirtyPages); cleaning = cleaningAfter g (l .cleaning) }
+  abbrev liveAfterCommit : List Update → List (List Update) → Live
+  liveAfterCommit g q = record { ticket = l .ticket + 1; queue = q; count = 0; dirtyPages = applyAll (length history + 1 - l .count) home g (l .dirtyPages); cleaning = cleaningAfter g (l .cleaning) }
 
   -- COMMIT
   pub kept-commit : (g : List Update) (q : List (List Update)) → l .queue ≡ g ∷ q → l .count ≡ length g → Room z (length history + 1) l g
-      → Kept z (store (z .N) (length history + 1) (cblk g) log) home (committed b g q) (history ++ (cblk g ∷ [])) × Runs z home (committed b g q) (history ++ (cblk g ∷ [])) (length history + 2) (clive g q)
+      → Kept z (store (z .N) (length history + 1) (commitBlock g) log) home (committed b g q) (history ++ (commitBlock g ∷ [])) × Runs z home (committed b g q) (history ++ (commitBlock g ∷ [])) (length history + 2) (liveAfterCommit g q)
   unfolding commitLogged
   kept-commit g q e h rm =
       let i : Inv (commitLogged w₁ l g q) (committed b g q) = invariant-commit w₁ l b g q (k .disk) (r .alive) e (omega arith) in
-      let a : Alive (history ++ (cblk g ∷ [])) home (clive g q) (committed b g q) = i .lives in
+      let a : Alive (history ++ (commitBlock g ∷ [])) home (liveAfterCommit g q) (committed b g q) = i .lives in
       let pq : UpsQ (z .P) (g ∷ q) = rw e at (r .places) in
       let ws : Wells (g ∷ q) = rw e at (r .alive .wells) in
-      let pg : Pages (z .P) (clive g q .dirtyPages) = pages-all (z .P) (length history + 1 - l .count) home g (l .dirtyPages) (pq .0) (r .pages) in
-      let cd : tally (z .P) (dirtyOf (history ++ (cblk g ∷ []))) ≡ length (clive g q .dirtyPages) = count-dirty z home (committed b g q) (history ++ (cblk g ∷ [])) (clive g q) a pg in
-      let le : length (clive g q .dirtyPages) ≤ length (l .dirtyPages) + length g = length-all (length history + 1 - l .count) home g (l .dirtyPages) in
+      let pageFacts : Pages (z .P) (liveAfterCommit g q .dirtyPages) = pages-all (z .P) (length history + 1 - l .count) home g (l .dirtyPages) (pq .0) (r .pages) in
+      let cd : tally (z .P) (dirtyOf (history ++ (commitBlock g ∷ []))) ≡ length (liveAfterCommit g q .dirtyPages) = count-dirty z home (committed b g q) (history ++ (commitBlock g ∷ [])) (liveAfterCommit g q) a pageFacts in
+      let le : length (liveAfterCommit g q .dirtyPages) ≤ length (l .dirtyPages) + length g = length-all (length history + 1 - l .count) home g (l .dirtyPages) in
       let pr : length (view history 0 .group) ≡ length g = group-right history (b .m) (l .count) g (l .queue) q e (ws .0 .0) (omega arith) (r .alive .half) in
-      let sv : tally (z .P) (λ p. isDirty (viewBlock p (length history + 1) (commit (length g)) (view history p) .page)) ≡ tally (z .P) (dirtyOf (history ++ (cblk g ∷ []))) =
-      tally-same (z .P) _ _ (λ p. ap (λ (t : View). isDirty (t .page)) (sym (view-snoc history (cblk g) p))) in (
-        grown z log home b history l big k r (cblk g) (committed b g q) home
+      let sv : tally (z .P) (λ p. isDirty (viewBlock p (length history + 1) (commit (length g)) (view history p) .page)) ≡ tally (z .P) (dirtyOf (history ++ (commitBlock g ∷ []))) =
+      tally-same (z .P) _ _ (λ p. ap (λ (t : View). isDirty (t .page)) (sym (view-snoc history (commitBlock g) p))) in (
+        grown z log home b history l big k r (commitBlock g) (committed b g q) home
             (omega arith, sym pr, ap (λ (n : ℕ). n + 1) (r .alive .ticket), omega (arith, sv, cd, le, rm .frames))
             refl (i .disk) (omega (arith, cd, le, rm .slots)),
-        record { next = omega (arith, length-append history (cblk g ∷ [])); alive = a; pages = pg; places = pq .1 },
+        record { next = omega (arith, length-append history (commitBlock g ∷ [])); alive = a; pages = pageFacts; places = pq .1 },
       )
 
-  abbrev nblk : ℕ → LogBlock
-  nblk q = record { kind = clean q; keepFrom = keepFromOf (length history + 1) (without q (l .dirtyPages)); ticket = l .ticket }
+  abbrev cleanBlock : ℕ → LogBlock
+  cleanBlock q = record { kind = clean q; keepFrom = keepFromOf (length history + 1) (without q (l .dirtyPages)); ticket = l .ticket }
 
-  abbrev nlive : ℕ → Live
-  nlive q = record { ticket = l .ticket; queue = l .queue; count = l .count; dirtyPages = without q (l .dirtyPages); cleaning = idle }
+  abbrev liveAfterClean : ℕ → Live
+  liveAfterClean q = record { ticket = l .ticket; queue = l .queue; count = l .count; dirtyPages = without q (l .dirtyPages); cleaning = idle }
 
   -- CLEAN BLOCK
   pub kept-clean : (q : ℕ) (e : DirtyPage) → lookUp q (l .dirtyPages) ≡ at e → home q ≡ b .pages q → l .count ≡ 0
       → length history + 1 - keepFromOf (length history + 1) (l .dirtyPages) + length (l .dirtyPages) ≤ z .N
-      → Kept z (store (z .N) (length history + 1) (nblk q) log) home b (history ++ (nblk q ∷ [])) × Runs z home b (history ++ (nblk q ∷ [])) (length history + 2) (nlive q)
+      → Kept z (store (z .N) (length history + 1) (cleanBlock q) log) home b (history ++ (cleanBlock q ∷ [])) × Runs z home b (history ++ (cleanBlock q ∷ [])) (length history + 2) (liveAfterClean q)
   unfolding cleanLogged
   kept-clean q e f hp c0 rm =
       let i : Inv (cleanLogged w₁ l q) b = invariant-clean w₁ l b q (k .disk) (r .alive) hp c0 in
-      let a : Alive (history ++ (nblk q ∷ [])) home (nlive q) b = i .lives in
-      let pg : Pages (z .P) (without q (l .dirtyPages)) = pages-without (z .P) q (l .dirtyPages) (r .pages) in
-      let cd : tally (z .P) (dirtyOf (history ++ (nblk q ∷ []))) ≡ length (without q (l .dirtyPages)) = count-dirty z home b (history ++ (nblk q ∷ [])) (nlive q) a pg in
+      let a : Alive (history ++ (cleanBlock q ∷ [])) home (liveAfterClean q) b = i .lives in
+      let pageFacts : Pages (z .P) (without q (l .dirtyPages)) = pages-without (z .P) q (l .dirtyPages) (r .pages) in
+      let cd : tally (z .P) (dirtyOf (history ++ (cleanBlock q ∷ []))) ≡ length (without q (l .dirtyPages)) = count-dirty z home b (history ++ (cleanBlock q ∷ [])) (liveAfterClean q) a pageFacts in
       let ls : length (without q (l .dirtyPages)) + 1 ≤ length (l .dirtyPages) = without-less q e (l .dirtyPages) f in
       let ol : keepFromOf (length history + 1) (l .dirtyPages) ≤ keepFromOf (length history + 1) (without q (l .dirtyPages)) = keepFrom-without (length history + 1) q (l .dirtyPages) in (
-        grown z log home b history l big k r (nblk q) b home (r .alive .ticket) (omega arith) (i .disk) (omega (arith, cd, ls, ol, rm)),
-        record { next = omega (arith, length-append history (nblk q ∷ [])); alive = a; pages = pg; places = r .places },
+        grown z log home b history l big k r (cleanBlock q) b home (r .alive .ticket) (omega arith) (i .disk) (omega (arith, cd, ls, ol, rm)),
+        record { next = omega (arith, length-append history (cleanBlock q ∷ [])); alive = a; pages = pageFacts; places = r .places },
       )
 
   -- HALF A PAGE: the log is as it was
