@@ -21,6 +21,7 @@ use Rattle.promises.specs.LogStep.{noUpdate, updateBlock, commitBlock, dirtyAft
 use Rattle.promises.proofs.Soundness.{Sound, sound-of, of-sound}
 use Rattle.promises.proofs.SoundFacts.{length-dirty, keepFrom-dirty}
 use Rattle.promises.proofs.Changes.{updateDone, update-met}
+use Rattle.promises.proofs.LogSteps.{keep-applied}
 use Rattle.promises.proofs.Promised.{log-updates, log-commits}
 use Rattle.table.proofs.Holding.{sound-holds}
 use Rattle.queue.specs.Queue.{commitDone}
@@ -28,19 +29,6 @@ use Rattle.queue.proofs.Leaving.{queue-left, contents-left}
 use Rattle.logging.specs.Logging.{noStaged, sizeOf, stagedAt, oldestGroup, updateAt, commitAt, Commits}
 use Rattle.logging.proofs.Committing.{sound-commit}
 use Rattle.logging.proofs.Decision.{accepted, Accepted, size-and-rest}
-
--- ---- keep-from is the same before a commit and after it: each page that it makes dirty starts at the group's own start
-
-keep-one : (start : ℕ) (home : ℕ → List ℕ) (u : Update) (es : List DirtyPage) → keepFromOf start (apply start home u es) ≡ keepFromOf start es
-unfolding apply keepFromOf
-keep-one start home u [] = omega arith
-keep-one start home u (e ∷ es) =
-    by-cases (eqb (u .page) (e .page)) (λ t. rw t refl) (λ t. rw t (ap (min (e .first)) (keep-one start home u es)))
-
-pub keep-all : (start : ℕ) (home : ℕ → List ℕ) (us : List Update) (es : List DirtyPage) → keepFromOf start (applyAll start home us es) ≡ keepFromOf start es
-unfolding applyAll
-keep-all start home [] es = refl
-keep-all start home (u ∷ us) es = keep-all start home us (apply start home u es) ∙ keep-one start home u es
 
 no-update : (staging : List ℕ) → waiting staging noStaged ≡ noUpdate
 unfolding part
@@ -101,7 +89,7 @@ module _ (s : State) (log home frames staging : List ℕ) (accepts : logRefusalO
   commit-is =
       ap (λ (n : ℕ). record { kind = commit n; keepFrom = keep; ticket = s .ticket + 1 }) (sym group-long)
       ∙ ap (λ (k : ℕ). record { kind = commit (length group); keepFrom = k; ticket = s .ticket + 1 })
-      (keep-of ∙ sym (keep-all (groupStart s) (pageAt home) group (dirtyOf s frames)))
+      (keep-of ∙ sym (keep-applied (groupStart s) (pageAt home) group (dirtyOf s frames)))
 
   pub commit-steps : (r : State) (log′ frames′ : List ℕ) → sizeOf s ≤ s .stored → Commits s log home frames staging keep r log′ frames′
       → LogSteps s log home frames staging (record { state = r; answer = Settled (s .ticket + 1) }) log′ frames′

@@ -29,7 +29,7 @@ use Rattle.promises.proofs.History.Machine as machine
 use Rattle.promises.proofs.History.Ledger as ledger
 use Rattle.promises.proofs.History.Stored.{store}
 use Rattle.promises.proofs.History.Sees.{by-eq, Sees}
-use Rattle.promises.proofs.History.Invariant.{Inv, Stage, frame-right, invariant-front, invariant-back, Disk, Alive, view}
+use Rattle.promises.proofs.History.Invariant.{Inv, Stage, frame-right, invariant-front, invariant-back, Disk, Alive, view, same-page, other-page}
 use Rattle.promises.proofs.History.Whole.{Kept, Runs, kept-clean, kept-half}
 use Rattle.promises.specs.Book.{Book}
 use Rattle.promises.specs.Events.{Sizes, World, Call, cleanStep, Reply, accepts}
@@ -42,14 +42,6 @@ use Rattle.promises.proofs.Slots.{KindFits}
 use Rattle.promises.proofs.SoundFacts.{Facts, facts}
 use Rattle.promises.proofs.Kept.{sizesOf, bookOf, liveOf, stageOf, Lives, Good, lookUp-page, Matches, lives-from}
 use Rattle.promises.proofs.LogSteps.{keep-facts, stored-long, stored-slots}
-
-same-page : (q : ℕ) (x : List ℕ) (home : ℕ → List ℕ) → setPage q x home q ≡ x
-unfolding setPage
-same-page q x home = simp (eq-eqb q q refl)
-
-other-page : (p q : ℕ) (x : List ℕ) (home : ℕ → List ℕ) → (p ≡ q → ⊥) → setPage q x home p ≡ home p
-unfolding setPage
-other-page p q x home n = simp (ne-eqb p q n)
 
 part-front-is : (x : List ℕ) → part x 0 512 ≡ take 512 x
 unfolding part

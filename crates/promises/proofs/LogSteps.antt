@@ -57,7 +57,7 @@ keep-apply start home u (e ∷ es) = go (eqb (u .page) (e .page)) (keep-apply st
     go true h = refl
     go false h = ap (min (e .first)) h
 
-keep-applied : (start : ℕ) (home : ℕ → List ℕ) (us : List Update) (es : List DirtyPage) → keepFromOf start (applyAll start home us es) ≡ keepFromOf start es
+pub keep-applied : (start : ℕ) (home : ℕ → List ℕ) (us : List Update) (es : List DirtyPage) → keepFromOf start (applyAll start home us es) ≡ keepFromOf start es
 unfolding applyAll
 keep-applied start home [] es = refl
 keep-applied start home (u ∷ us) es = keep-applied start home us (apply start home u es) ∙ keep-apply start home u es

@@ -34,27 +34,24 @@ use Rattle.promises.proofs.History.Whole.{Kept, Runs}
 use Rattle.promises.proofs.History.Reopened.{begins-le, last-keepFrom, newest-is, gathered-is, okay, fitting, reports, running}
 use Rattle.promises.specs.Book.{Book, gone}
 use Rattle.promises.specs.Events.{Sizes, World, Reply, refuses, settles, shows, accepts, openAnswered, readAnswered, Opening, Reading}
+use Rattle.promises.proofs.Soundness.{and-both}
 use Rattle.promises.proofs.Ranges.{Ranged}
 use Rattle.promises.proofs.Kept.{sizesOf, bookOf, Lives, Good, apply-all-cong, Matches, lives-from}
 use Rattle.promises.proofs.QuietCalls.{answer-reading}
 use Rattle.promises.proofs.Slots.{size-slots}
 
 -- ---- a walk without a refusal
-ok-and : (x y z : Bool) → (x && y) ≡ true → (x ≡ true) × (y ≡ true)
-ok-and true y z e = (refl, e)
-ok-and false y z e = let n : _≡_ {A = ℕ} 0 1 = cc in absurd (omega arith)
-
 ok-parts : (F : ℕ) (home : ℕ → List ℕ) (k : Kind) (t : ℕ) (v : Walk) → blockStands F home k t v ≡ true → (inOrder k t v ≡ true) × (framed F home k v ≡ true)
 unfolding blockStands inOrder framed
 ok-parts F home (update i u) t v e = (e, refl)
-ok-parts F home (commit n) t v e = ok-and _ (leb (length (applyAll (v .start) home (v .group) (v .dirtyPages))) F) true e
+ok-parts F home (commit n) t v e = and-both _ (leb (length (applyAll (v .start) home (v .group) (v .dirtyPages))) F) e
 ok-parts F home (clean q) t v e = (e, refl)
 
 walk-ok : (N F next : ℕ) (home : ℕ → List ℕ) (j : ℕ) (bs : List LogBlock) (v : Walk) → allStand F home j bs v ≡ true → walkFrom N F home next j bs v ≡ ending N next (walk home j bs v)
 unfolding allStand walkFrom walk
 walk-ok N F next home j [] v e = refl
 walk-ok N F next home j (b ∷ bs) v e =
-    let c = ok-and (blockStands F home (b .kind) (b .ticket) v) (allStand F home (suc j) bs (walkBlock home j (b .kind) v)) true e in
+    let c = and-both (blockStands F home (b .kind) (b .ticket) v) (allStand F home (suc j) bs (walkBlock home j (b .kind) v)) e in
     let d = ok-parts F home (b .kind) (b .ticket) v (c .0) in
     rw (d .0, d .1) (walk-ok N F next home (suc j) bs (walkBlock home j (b .kind) v) (c .1))
 

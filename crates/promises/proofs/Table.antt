@@ -9,12 +9,14 @@ use lib.ListN.{length, getD, set}
 use lib.Seq.{set-getD}
 use lib.Dec.{eqb}
 use borrow.Author.Tests.{eqb-true, eqb-false, eq-eqb, ne-eqb}
+use Rattle.block.proofs.Tests.{by-cases}
 use Rattle.promises.specs.declared.Dirty.{Dirty}
 use Rattle.promises.specs.Areas.{pageAt}
 use Rattle.promises.specs.Updates.{Update, put}
 use Rattle.promises.specs.DirtyPages.{DirtyPage, Found, absent, at, lookUp, apply, without}
 use Rattle.promises.specs.Contents.{unless, dirtyFrom}
 use Rattle.promises.specs.Sound.{member, dirtyNumbers}
+use Rattle.promises.proofs.Soundness.{and-both}
 
 abbrev pub free : Dirty
 free = record { page = 0; first = 0 }
@@ -23,17 +25,13 @@ free = record { page = 0; first = 0 }
 abbrev pub entryOr : ℕ → Dirty → List ℕ → Found → Found
 entryOr p d bytes rest = cond (not (eqb (d .first) 0) && eqb p (d .page)) (at (record { page = d .page; first = d .first; bytes = bytes })) rest
 
-by-test : {X : Type 0} (b : Bool) → (b ≡ true → X) → (b ≡ false → X) → X
-by-test true f g = f refl
-by-test false f g = g refl
-
 -- frames that agree from frame f on
 dirty-cong : (frames frames′ : List ℕ) (f : ℕ) (ds : List Dirty) → ((g : ℕ) → f ≤ g → pageAt frames′ g ≡ pageAt frames g) → dirtyFrom frames′ f ds ≡ dirtyFrom frames f ds
 unfolding dirtyFrom
 dirty-cong frames frames′ f [] h = refl
 dirty-cong frames frames′ f (d ∷ ds) h = rw (h f (omega arith), dirty-cong frames frames′ (suc f) ds (λ g l. h g (omega arith))) refl
 
-or-false : (a b : Bool) → (a || b) ≡ false → (a ≡ false) × (b ≡ false)
+pub or-false : (a b : Bool) → (a || b) ≡ false → (a ≡ false) × (b ≡ false)
 or-false true b e = let z : _≡_ {A = ℕ} 0 1 = cc in absurd (omega arith)
 or-false false b e = (refl, e)
 
@@ -43,10 +41,6 @@ swap p true true x y r h = let e : _≡_ {A = Bool} true false = h refl in let z
 swap p true false x y r h = refl
 swap p false true x y r h = refl
 swap p false false x y r h = refl
-
-and-true : (a b : Bool) → (a && b) ≡ true → (a ≡ true) × (b ≡ true)
-and-true true b e = (refl, e)
-and-true false b e = let z : _≡_ {A = ℕ} 0 1 = cc in absurd (omega arith)
 
 not-false : (a : Bool) → not a ≡ true → a ≡ false
 not-false true e = let z : _≡_ {A = ℕ} 0 1 = cc in absurd (omega arith)
@@ -85,7 +79,7 @@ lookUp-set p frames frames′ f (suc i) (x ∷ ds) d h a n =
         let tl : eqb (d .first) 0 ≡ false → member (d .page) (dirtyNumbers (set ds i free)) ≡ false = λ e. or-false (eqb (d .page) (x .page)) (member (d .page) (dirtyNumbers (set ds i free))) (n e) .1 in
         ap (λ (r : Found). cond (eqb p (x .page)) (at (record { page = x .page; first = x .first; bytes = pageAt frames f })) r) (ih tl)
         ∙ swap p (eqb p (x .page)) (not (eqb (d .first) 0) && eqb p (d .page)) _ _ _
-        (λ c. let y = and-true (not (eqb (d .first) 0)) (eqb p (d .page)) c in
+        (λ c. let y = and-both (not (eqb (d .first) 0)) (eqb p (d .page)) c in
         let q : p ≡ d .page = eqb-true p (d .page) (y .1) in
         let z : eqb (d .page) (x .page) ≡ false = or-false (eqb (d .page) (x .page)) (member (d .page) (dirtyNumbers (set ds i free))) (n (not-false (eqb (d .first) 0) (y .0))) .0 in
         ne-eqb p (x .page) (λ r. eqb-false (d .page) (x .page) z (sym q ∙ r)))
@@ -95,7 +89,7 @@ pub apply-new : (s : ℕ) (home : ℕ → List ℕ) (u : Update) (es : List Dirt
     → lookUp p (apply s home u es) ≡ cond (eqb p (u .page)) (at (record { page = u .page; first = s; bytes = put u (home (u .page)) })) (lookUp p es)
 unfolding apply lookUp
 apply-new s home u [] p e = refl
-apply-new s home u (x ∷ es) p e = by-test (eqb (u .page) (x .page))
+apply-new s home u (x ∷ es) p e = by-cases (eqb (u .page) (x .page))
     (λ t. let c : at x ≡ absent = rw t at e in let z : _≡_ {A = ℕ} 0 1 = cc in absurd (omega arith))
     (λ t. rw t (ap (λ (r : Found). cond (eqb p (x .page)) (at x) r) (apply-new s home u es p (rw t at e))
     ∙ swap p (eqb p (x .page)) (eqb p (u .page)) _ _ _ (λ c. ne-eqb p (x .page) (λ q. eqb-false (u .page) (x .page) t (sym (eqb-true p (u .page) c) ∙ q)))))
@@ -104,7 +98,7 @@ pub apply-old : (s : ℕ) (home : ℕ → List ℕ) (u : Update) (es : List Dirt
     → lookUp p (apply s home u es) ≡ cond (eqb p (u .page)) (at (record { page = y .page; first = y .first; bytes = put u (y .bytes) })) (lookUp p es)
 unfolding apply lookUp
 apply-old s home u [] p y e = let z : _≡_ {A = ℕ} 0 1 = cc in absurd (omega arith)
-apply-old s home u (x ∷ es) p y e = by-test (eqb (u .page) (x .page))
+apply-old s home u (x ∷ es) p y e = by-cases (eqb (u .page) (x .page))
     (λ t. let c : x ≡ y = same-at (rw t at e) in
     let m : eqb p (u .page) ≡ eqb p (x .page) = ap (eqb p) (eqb-true (u .page) (x .page) t) in
     rw t (subst (λ (b : Bool). cond b (at (more x)) (lookUp p es) ≡ cond (eqb p (u .page)) (at (more y)) (cond b (at x) (lookUp p es))) m (fin (eqb p (u .page)) (ap (λ (v : DirtyPage). at (more v)) c))))
@@ -124,9 +118,9 @@ apply-old s home u (x ∷ es) p y e = by-test (eqb (u .page) (x .page))
 -- ---- a clean block frees its page's frame
 pub lookUp-without : (p q : ℕ) (es : List DirtyPage) → lookUp p (without q es) ≡ cond (eqb p q) absent (lookUp p es)
 unfolding lookUp without
-lookUp-without p q [] = by-test (eqb p q) (λ t. rw t refl) (λ t. rw t refl)
-lookUp-without p q (x ∷ es) = by-test (eqb q (x .page))
-    (λ t. rw t (lookUp-without p q es ∙ by-test (eqb p q)
+lookUp-without p q [] = by-cases (eqb p q) (λ t. rw t refl) (λ t. rw t refl)
+lookUp-without p q (x ∷ es) = by-cases (eqb q (x .page))
+    (λ t. rw t (lookUp-without p q es ∙ by-cases (eqb p q)
     (λ r. rw r refl)
     (λ r. let n : eqb p (x .page) ≡ false = ne-eqb p (x .page) (λ e. eqb-false p q r (e ∙ sym (eqb-true q (x .page) t))) in rw (r, n) refl)))
     (λ t. rw t (ap (λ (y : Found). cond (eqb p (x .page)) (at x) y) (lookUp-without p q es)
@@ -149,6 +143,6 @@ lookUp-freed p frames f i ds h z n =
     let l : lookUp p (dirtyFrom frames f ds) ≡ entryOr p x (pageAt frames (f + i)) (lookUp p (dirtyFrom frames f (set ds i free))) =
     ap (λ (y : List Dirty). lookUp p (dirtyFrom frames f y)) (sym (set-getD ds i free)) ∙ lookUp-set p frames frames f i ds x h (λ g q. refl) (λ e. n) in
     sym (lookUp-without p (x .page) (dirtyFrom frames f ds)
-    ∙ by-test (eqb p (x .page))
+    ∙ by-cases (eqb p (x .page))
     (λ t. rw t (sym (ap (λ (y : ℕ). lookUp y (dirtyFrom frames f (set ds i free))) (eqb-true p (x .page) t) ∙ lookUp-none (x .page) frames f (set ds i free) n)))
     (λ t. rw t (l ∙ rw (z, t) refl)))

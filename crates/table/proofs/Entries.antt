@@ -13,14 +13,11 @@ use Rattle.promises.specs.Contents.{unless}
 use Rattle.promises.specs.Sums.{firstGroups}
 use Rattle.promises.specs.Sound.{member, distinct, dirtyNumbers}
 use Rattle.promises.proofs.Soundness.{and-both, and2}
+use Rattle.promises.proofs.Table.{or-false}
 use Rattle.table.specs.Search.{free, isFree, isOf, placeOf}
 
 never : {X : Type 0} → _≡_ {A = Bool} true false → X
 never e = let y : _≡_ {A = ℕ} 0 1 = cc in absurd (omega arith)
-
-or-none : (a b : Bool) → (a || b) ≡ false → (a ≡ false) × (b ≡ false)
-or-none true b e = never e
-or-none false b e = (refl, e)
 
 none-or : (a b : Bool) → a ≡ false → b ≡ false → (a || b) ≡ false
 none-or a b e f = rw (e, f)
@@ -39,7 +36,7 @@ member-set x zero (y ∷ ds) d a h = back (eqb (d .first) 0) a (front (eqb (y .f
   where
     front : (b : Bool) → member x (unless b (y .page) (dirtyNumbers ds)) ≡ false → member x (dirtyNumbers ds) ≡ false
     front true h = h
-    front false h = or-none (eqb x (y .page)) (member x (dirtyNumbers ds)) h .1
+    front false h = or-false (eqb x (y .page)) (member x (dirtyNumbers ds)) h .1
 
     back : (b : Bool) → (b ≡ false → eqb x (d .page) ≡ false) → member x (dirtyNumbers ds) ≡ false → member x (unless b (d .page) (dirtyNumbers ds)) ≡ false
     back true a h = h
@@ -50,7 +47,7 @@ member-set x (suc i) (y ∷ ds) d a h = both (eqb (y .first) 0) (member-set x i 
         → member x (unless b (y .page) (dirtyNumbers ds)) ≡ false → member x (unless b (y .page) (dirtyNumbers (set ds i d))) ≡ false
     both true ih h = ih h
     both false ih h =
-        let o = or-none (eqb x (y .page)) (member x (dirtyNumbers ds)) h in
+        let o = or-false (eqb x (y .page)) (member x (dirtyNumbers ds)) h in
         none-or (eqb x (y .page)) (member x (dirtyNumbers (set ds i d))) (o .0) (ih (o .1))
 
 -- no page twice, after a change to one that no other entry has
@@ -78,9 +75,9 @@ distinct-set (suc i) (y ∷ ds) d a h = both (eqb (y .first) 0) (distinct-set i 
         let o = and-both (not (member (y .page) (dirtyNumbers ds))) (distinct (dirtyNumbers ds)) h in
         and2
         (ap not (member-set (y .page) i ds d
-        (λ e. other-way (d .page) (y .page) (or-none (eqb (d .page) (y .page)) (member (d .page) (dirtyNumbers (set ds i free))) (a e) .0))
+        (λ e. other-way (d .page) (y .page) (or-false (eqb (d .page) (y .page)) (member (d .page) (dirtyNumbers (set ds i free))) (a e) .0))
         (not-true _ (o .0))))
-        (ih (λ e. or-none (eqb (d .page) (y .page)) (member (d .page) (dirtyNumbers (set ds i free))) (a e) .1) (o .1))
+        (ih (λ e. or-false (eqb (d .page) (y .page)) (member (d .page) (dirtyNumbers (set ds i free))) (a e) .1) (o .1))
 
 -- an entry's own page is not among the others
 pub own-apart : (i : ℕ) (ds : List Dirty) → distinct (dirtyNumbers ds) ≡ true → eqb (getD ds i free .first) 0 ≡ false

@@ -112,13 +112,13 @@ ok-block F k P j m home (commit n) t v ts ss d r =
     committed p = commit-sees home p j n v (ss p) (d .tells p)
 ok-block F k P j m home (clean q) t v ts ss d r = eq-eqb t (v .ticket) (r ∙ sym (d .ticket))
 
-step-ticket : (home : ℕ → List ℕ) (j : ℕ) (k : Kind) (v : Walk) → walkBlock home j k v .ticket ≡ v .ticket + isCommit k
+pub step-ticket : (home : ℕ → List ℕ) (j : ℕ) (k : Kind) (v : Walk) → walkBlock home j k v .ticket ≡ v .ticket + isCommit k
 unfolding walkBlock
 step-ticket home j (update i u) v = by-eq i 1 (λ e. simp (eq-eqb _ _ e) (omega arith)) (λ n. simp (ne-eqb _ _ n) (omega arith))
 step-ticket home j (commit n) v = refl
 step-ticket home j (clean q) v = omega arith
 
-step-distinct : (home : ℕ → List ℕ) (j : ℕ) (k : Kind) (v : Walk) → Distinct (v .dirtyPages) → Distinct (walkBlock home j k v .dirtyPages)
+pub step-distinct : (home : ℕ → List ℕ) (j : ℕ) (k : Kind) (v : Walk) → Distinct (v .dirtyPages) → Distinct (walkBlock home j k v .dirtyPages)
 unfolding walkBlock
 step-distinct home j (update i u) v d = by-eq i 1 (λ e. simp (eq-eqb _ _ e) d) (λ n. simp (ne-eqb _ _ n) d)
 step-distinct home j (commit n) v d = distinct-all (v .start) home (v .group) (v .dirtyPages) d

@@ -339,11 +339,11 @@ invariant-commit w l b g r d a e h =
     }
 
 -- ---- half a page is stored
-same-page : (q : ℕ) (x : List ℕ) (home : ℕ → List ℕ) → setPage q x home q ≡ x
+pub same-page : (q : ℕ) (x : List ℕ) (home : ℕ → List ℕ) → setPage q x home q ≡ x
 unfolding setPage
 same-page q x home = simp (eq-eqb q q refl)
 
-other-page : (p q : ℕ) (x : List ℕ) (home : ℕ → List ℕ) → (p ≡ q → ⊥) → setPage q x home p ≡ home p
+pub other-page : (p q : ℕ) (x : List ℕ) (home : ℕ → List ℕ) → (p ≡ q → ⊥) → setPage q x home p ≡ home p
 unfolding setPage
 other-page p q x home n = simp (ne-eqb p q n)
 

@@ -20,24 +20,13 @@ use Rattle.promises.specs.Walk.{Walk, walkBlock, believed}
 use Rattle.promises.proofs.History.Ledger.{Book, gone}
 use Rattle.promises.proofs.History.Since.{AtLeast, Below, from-keepFrom, below-track}
 use Rattle.promises.proofs.History.Sees.{Sees, clear, held, by-eq, Tells, tells-walk}
-use Rattle.promises.proofs.History.WalkStart.{BeginsAt, Distinct, distinct-all, distinct-without, isCommit, commits}
+use Rattle.promises.proofs.History.WalkStart.{BeginsAt, Distinct, isCommit, commits}
+use Rattle.promises.proofs.History.Accepted.{step-distinct, step-ticket}
 use Rattle.promises.proofs.History.Invariant.{view, First, Disk, Keep, empty, from, Half, whole, part, Well, Wells, Stage, Alive, Lives, Inv, counted, invariant-update, committed, invariant-commit, frame-right, invariant-front, invariant-back, invariant-clean}
 
 -- ---- Open
 abbrev walkAt : ℕ → Walk
 walkAt t = record { group = []; start = 0; ticket = t; dirtyPages = [] }
-
-step-distinct : (home : ℕ → List ℕ) (j : ℕ) (k : Kind) (v : Walk) → Distinct (v .dirtyPages) → Distinct (walkBlock home j k v .dirtyPages)
-unfolding walkBlock
-step-distinct home j (update i u) v d = by-eq i 1 (λ e. simp (eq-eqb _ _ e) d) (λ n. simp (ne-eqb _ _ n) d)
-step-distinct home j (commit n) v d = distinct-all (v .start) home (v .group) (v .dirtyPages) d
-step-distinct home j (clean q) v d = distinct-without q (v .dirtyPages) d
-
-step-ticket : (home : ℕ → List ℕ) (j : ℕ) (k : Kind) (v : Walk) → walkBlock home j k v .ticket ≡ v .ticket + isCommit k
-unfolding walkBlock
-step-ticket home j (update i u) v = by-eq i 1 (λ e. simp (eq-eqb _ _ e) (omega arith)) (λ n. simp (ne-eqb _ _ n) (omega arith))
-step-ticket home j (commit n) v = refl
-step-ticket home j (clean q) v = omega arith
 
 walk-distinct : (home : ℕ → List ℕ) (j : ℕ) (bs : List LogBlock) (v : Walk) → Distinct (v .dirtyPages) → Distinct (walk home j bs v .dirtyPages)
 unfolding walk
