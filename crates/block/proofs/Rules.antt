@@ -2,9 +2,9 @@
 -- the answers from the tests.
 -- Assumes nothing.
 use mathlib.Core.Path.{_≡_, refl, sym, ap, _∙_}
-use mathlib.Core.Bool.{Bool, true, false, _&&_}
+use mathlib.Core.Bool.{Bool, true, false, _&&_, and-true, and-assoc}
 use mathlib.Core.List.{List, _++_}
-use Prim.Native.Nat.{ℕ, _+_, _-_, _≤_, _<_}
+use Prim.Native.Nat.{ℕ, _+_, _-_, _≤_, _<_, max}
 use native.Mathlib.Omega.{arith}
 use native.Mathlib.Numerals.{add-one}
 use lib.Dec.{leb, ltb, eqb}
@@ -25,7 +25,7 @@ use Rattle.block.specs.declared.Kind.{Kind}
 use Rattle.block.specs.declared.Kind.the-variants.{Update, Commit, Clean}
 use Rattle.block.specs.declared.Judged.the-variants.{Unused, Damaged, Valid}
 use Rattle.block.proofs.Numbers.{Bytes}
-use Rattle.block.proofs.Tests.{tests, and-iff, allZero-zeros}
+use Rattle.block.proofs.Tests.{tests, and-iff, bool-ext, allZero-zeros}
 use Rattle.block.proofs.Laid.{laid, sameFields, reserved}
 
 -- ---- all bytes are zero
@@ -47,6 +47,27 @@ zeros-not bytes i h n = step bytes i h ∙ ap (λ (t : Bool). t && allZero (drop
 pub zeros-end : (bytes : List ℕ) (i : ℕ) → length bytes ≤ i → allZero (drop i bytes) ≡ true
 unfolding allZero
 zeros-end bytes i h = rw (drop-of-length-le bytes h)
+
+-- the larger of two numbers is zero where both are
+larger-zero : (a b : ℕ) → eqb (max a b) 0 ≡ (eqb a 0 && eqb b 0)
+larger-zero a b =
+    bool-ext (eqb (max a b) 0) (eqb a 0 && eqb b 0)
+    (λ h. let g = simp tests at h in simp tests (omega arith))
+    (λ h. let g = simp tests at h in simp tests (omega arith))
+
+-- the byte at i goes from the bytes left to the largest of those read
+pub most-turn : (bytes : List ℕ) (i most : ℕ) → i < length bytes
+    → (eqb most 0 && allZero (drop i bytes)) ≡ (eqb (max most (getD bytes i 0)) 0 && allZero (drop (i + 1) bytes))
+most-turn bytes i most h =
+    let byte = getD bytes i 0 in
+    let rest = allZero (drop (i + 1) bytes) in
+    ap (λ (t : Bool). eqb most 0 && t) (step bytes i h)
+    ∙ sym (and-assoc (eqb most 0) (eqb byte 0) rest)
+    ∙ ap (λ (t : Bool). t && rest) (sym (larger-zero most byte))
+
+-- past the last byte the largest tells
+pub most-end : (bytes : List ℕ) (i most : ℕ) → length bytes ≤ i → (eqb most 0 && allZero (drop i bytes)) ≡ eqb most 0
+most-end bytes i most h = ap (λ (t : Bool). eqb most 0 && t) (zeros-end bytes i h) ∙ and-true (eqb most 0)
 
 -- ---- sums compared without adding
 

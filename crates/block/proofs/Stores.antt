@@ -5,9 +5,11 @@ use mathlib.Core.List.{List, [], _∷_, _++_, append-nil, append-assoc}
 use Prim.Native.Nat.{ℕ, zero, suc, _+_, _*_, _-_, _/_, _%_, _^_, _≤_, _<_}
 use native.Mathlib.Omega.{arith}
 use native.Mathlib.Nat.{pow-succ', pow-le-pow-right}
+use native.Mathlib.Numerals.{add-one}
 use lib.ListN.{length, set, getD, take, drop, replicate, length-append, length-replicate, replicate-append-replicate, drop-of-length-le}
 use lib.Seq.{sets, sets-eq, take-at, drop-at, drop-cons}
 use Rattle.area.specs.Part.{part, splice}
+use Rattle.area.proofs.Parts.{length-part, part-append}
 use Rattle.block.specs.Sizes.{blockSize, newBytesMost, headerSize, bodySize}
 use Rattle.block.specs.Number.{toBytes, fromBytes}
 use Rattle.block.specs.Check.{checkA, checkB, modulus}
@@ -17,6 +19,7 @@ use Rattle.block.specs.Kind.{fieldsOf}
 use Rattle.block.specs.declared.Block.{Block}
 use Rattle.block.specs.declared.Fields.{Fields}
 use Rattle.block.proofs.Lengths.{length-header, length-toBytes, length-body}
+use Rattle.block.proofs.Numbers.{fromBytes-append}
 
 -- ---- a number stored
 
@@ -70,6 +73,21 @@ pub get-fits : (width i j value byte : ℕ) → width ≤ 8 → i ≡ j + 1 → 
 get-fits width i j value byte m e h p q =
     let k : width - j ≤ 8 = omega arith in
     omega (arith, below-turn width i j value byte e h p q, pow-le-pow-right {n = 256} (omega arith) k)
+
+-- the number in two bytes
+pub pair-law : (list : List ℕ) (place : ℕ) → place + 2 ≤ length list → getD list place 0 + getD list (place + 1) 0 * 256 ≡ numberAt list place 2
+unfolding numberAt part fromBytes
+pair-law list place h =
+    rw (drop-cons list place 0 (omega arith), add-one, drop-cons list (suc place) 0 (omega arith)) (omega arith)
+
+-- a number of two parts, the lower first
+pub numberAt-append : (list : List ℕ) (place low high : ℕ) → place + low ≤ length list
+    → numberAt list place (low + high) ≡ numberAt list place low + 256 ^ low * numberAt list (place + low) high
+unfolding numberAt
+numberAt-append list place low high h =
+    ap fromBytes (sym (part-append list place low high))
+    ∙ fromBytes-append (part list place low) (part list (place + low) high)
+    ∙ ap (λ (n : ℕ). fromBytes (part list place low) + 256 ^ n * fromBytes (part list (place + low) high)) (length-part list place low h)
 
 -- ---- the header
 

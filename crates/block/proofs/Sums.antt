@@ -2,17 +2,12 @@
 -- Assumes nothing.
 use mathlib.Core.Path.{_≡_, refl, sym, ap, _∙_}
 use Prim.Native.Nat.{ℕ, zero, suc, _+_, _*_, _-_, _%_, _≤_, _<_}
-use mathlib.Core.Bool.{Bool, _&&_}
 use mathlib.Core.List.{List, [], _∷_, _++_}
 use native.Mathlib.Omega.{arith}
 use native.Mathlib.Numerals.{add-one}
 use lib.ListN.{length, getD, drop, replicate, length-drop, length-append, length-replicate, drop-of-length-le}
-use lib.Dec.{eqb}
-use borrow.Author.Tests.{ne-eqb}
-use native.Mathlib.Nat.{zero-add}
 use lib.Seq.{drop-cons}
 use Rattle.block.specs.Check.{plain, weighted, checkA, checkB}
-use Rattle.block.specs.Slot.{allZero}
 
 -- the byte at i and the sum of those after it
 pub plain-step : (bytes : List ℕ) (i : ℕ) → i < length bytes → plain (drop i bytes) ≡ getD bytes i 0 + plain (drop (i + 1) bytes)
@@ -69,21 +64,3 @@ weighted-end modulus bytes zeros i a b h q p =
     let d : plain bytes ≡ a = omega (arith, q, ap plain (drop-of-length-le bytes h)) in
     let e : weighted bytes ≡ b = omega (arith, rw f at p, ap weighted (drop-of-length-le bytes h)) in
     ap (λ (n : ℕ). n % modulus) (sym (weighted-zeros bytes zeros ∙ rw (d, e) refl))
-
--- ---- a sum that is zero
-
-pub zero-sum : (bytes : List ℕ) → eqb (plain bytes) 0 ≡ allZero bytes
-unfolding plain allZero
-zero-sum [] = refl
-zero-sum (byte ∷ bytes) = by-zero (zero-sum bytes) byte
-  where
-    by-zero : eqb (plain bytes) 0 ≡ allZero bytes → (n : ℕ) → eqb (n + plain bytes) 0 ≡ (eqb n 0 && allZero bytes)
-    by-zero ih zero = rw (zero-add (plain bytes)) ih
-    by-zero ih (suc n) = ne-eqb (suc n + plain bytes) 0 (λ e. omega arith) ∙ sym (ap (λ (t : Bool). t && allZero bytes) (ne-eqb (suc n) 0 (λ e. omega arith)))
-
--- past the last byte the total is the plain sum
-pub total-end : (bytes : List ℕ) (i total : ℕ) → length bytes ≤ i → plain bytes ≡ total + plain (drop i bytes) → eqb total 0 ≡ allZero bytes
-unfolding plain
-total-end bytes i total h p =
-    let e : plain bytes ≡ total = omega (arith, p, ap plain (drop-of-length-le bytes h)) in
-    ap (λ (n : ℕ). eqb n 0) (sym e) ∙ zero-sum bytes

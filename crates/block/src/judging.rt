@@ -7,10 +7,10 @@ use crate::number;
 use crate::writing;
 ghost use mathlib.Core.Path.{_≡_};
 ghost use mathlib.Core.Bool.{_&&_};
-ghost use Prim.Native.Nat.{_+_, _-_, _≤_, _<_};
+ghost use Prim.Native.Nat.{_+_, _-_, _≤_, _<_, max};
 ghost use lib.Dec.{leb, eqb};
 ghost use lib.ListN.{length};
-ghost use Rattle.block.specs.Sizes.{blockSize, newBytesMost, bodySize};
+ghost use Rattle.block.specs.Sizes.{blockSize, newBytesMost};
 ghost use Rattle.block.specs.Kind.{kindOf, lengthOf};
 ghost use Rattle.block.specs.Layout.{layout};
 ghost use Rattle.block.specs.Legal.{legal, legalKind, legalNumbers};
@@ -36,18 +36,24 @@ pub fn zeros(bytes: &[u8]) -> bool
     true
 }
 
-// The same for bytes that are likely zero: all are read, and no branch is taken on a byte.
+// The larger of two bytes.
+fn larger(a: u8, b: u8) -> u8
+    ensures { λ r. ⌜ r ≡ max a b ⌝ }
+{
+    if a < b { b } else { a }
+}
+
+// Whether all bytes are zero, for bytes that likely are: the largest of all tells, and no branch is taken on a byte.
 fn blank(bytes: &[u8]) -> bool
-    requires { ⌜ length (now bytes) ≤ bodySize ⌝ }
     ensures { λ r. ⌜ r ≡ allZero (now (bytes .entry)) ⌝ }
 {
-    let mut total: u64 = 0;
+    let mut most: u8 = 0;
     let mut i = 0;
     while i < bytes.len() {
-        total += bytes[i] as u64;
+        most = larger(most, bytes[i]);
         i += 1;
     }
-    total == 0
+    most == 0
 }
 
 // Bytes 16 and 18 to 25 of a slot.
@@ -56,10 +62,10 @@ fn fields_at(slot: &[u8]) -> Fields
     ensures { λ r. ⌜ r ≡ fieldsAt (now (slot .entry)) ⌝ }
 {
     let kind = number::get(slot, 16, 1);
-    let index = number::get(slot, 18, 2) as usize;
-    let page = number::get(slot, 20, 2) as usize;
-    let offset = number::get(slot, 22, 2) as usize;
-    let length = number::get(slot, 24, 2) as usize;
+    let index = number::get_pair(slot, 18) as usize;
+    let page = number::get_pair(slot, 20) as usize;
+    let offset = number::get_pair(slot, 22) as usize;
+    let length = number::get_pair(slot, 24) as usize;
     Fields {
         kind,
         index,
@@ -95,10 +101,10 @@ pub fn block_at(slot: &[u8]) -> Block
     requires { ⌜ length (now slot) ≡ blockSize ⌝ }
     ensures { λ r. ⌜ r ≡ blockAt (now (slot .entry)) ⌝ }
 {
-    let sequence = number::get(slot, 0, 8);
-    let keep_from = number::get(slot, 8, 8);
+    let sequence = number::get_long(slot, 0);
+    let keep_from = number::get_long(slot, 8);
     let kind = kind_of(fields_at(slot));
-    let ticket = number::get(slot, 28, 8);
+    let ticket = number::get_long(slot, 28);
     Block {
         sequence,
         keep_from,
@@ -166,7 +172,7 @@ fn laid_out(slot: &[u8], block: Block, count: usize) -> bool
     let end = writing::HEADER + count;
     let padding = blank(&slot[end..writing::BODY]);
     let sums = check::check_of(&slot[..end], writing::BODY - end);
-    let checked = (number::get(slot, 508, 2) == sums.a) & (number::get(slot, 510, 2) == sums.b);
+    let checked = (number::get_pair(slot, 508) == sums.a) & (number::get_pair(slot, 510) == sums.b);
     told & reserved & padding & checked
 }
 

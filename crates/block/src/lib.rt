@@ -1,6 +1,6 @@
 // The log block: its layout, its check, writing it to a slot and judging a slot. Layers above know the format only through
 // the contracts here and the laws of proofs/ about the definitions that they cite.
-mod check;
+pub mod check;
 mod judging;
 mod number;
 mod writing;

@@ -2,7 +2,6 @@
 -- Assumes nothing.
 use mathlib.Core.Path.{sym}
 use Prim.Native.Nat.{_+_}
-use lib.ListN.{length-take, length-drop}
 use lib.Seq.{length-take-le}
 use Rattle.area.specs.Part.{part}
 use Rattle.block.specs.Sizes.{headerSize, bodySize}
@@ -43,7 +42,7 @@ part-blank-end : tie.Need-part-blank-end
 part-blank-end c = search needs
 
 blank-requires : tie.Need-blank-requires
-blank-requires c κs = simp (length-take, length-drop) (omega arith)
+blank-requires c κs = search needs
 
 slice-aggregate-check-of : tie.Need-slice-aggregate-check-of
 slice-aggregate-check-of c =
@@ -58,11 +57,11 @@ check-of-requires c κs =
     let start = c .before .before .before .before .before .before .before .before .before .before in
     omega (arith, length-take-le (headerSize + start .args .count) (start .args .slot .now) (omega arith))
 
-get-requires : tie.Need-get-requires
-get-requires c κs = search needs
+get-pair-requires : tie.Need-get-pair-requires
+get-pair-requires c κs = search needs
 
-get-requires-2 : tie.Need-get-requires-2
-get-requires-2 c κs = search needs
+get-pair-requires-2 : tie.Need-get-pair-requires-2
+get-pair-requires-2 c κs = search needs
 
 returns : tie.Need-returns
 unfolding part
@@ -74,12 +73,12 @@ returns c =
     let told = c .before .before .before .before .before .before .before .before .before .before .before .same-fields in
     let padding = c .before .before .before .before .before .before .blank in
     let sums = c .before .before .before .before .check-of in
-    let x = c .before .before .before .get in
-    let y = c .before .get2 in
+    let x = c .before .before .before .get-pair in
+    let y = c .before .get-pair2 in
     laid-by (start .args .slot .now) (start .args .count) (start .args .block) (at .result) (of .result) (told .result) (padding .result)
     (x .result) (y .result) (sums .result .a) (sums .result .b)
     (start .pre .0) (λ i. omega (arith, known .given i)) (start .pre .2) (start .pre .3) (start .pre .1)
-    (told .ensures) (at .ensures) (of .ensures) (padding .ensures) (x .ensures) (y .ensures) (sums .ensures .0) (sums .ensures .1)
+    (told .ensures) (at .ensures) (of .ensures) (padding .ensures) (x .ensures .0) (y .ensures .0) (sums .ensures .0) (sums .ensures .1)
 
 pub laid-out-spec : {M : Type 1} → statement M
 laid-out-spec =
@@ -99,6 +98,6 @@ laid-out-spec =
     slice-aggregate-check-of
     sub-check-of
     check-of-requires
-    get-requires
-    get-requires-2
+    get-pair-requires
+    get-pair-requires-2
     returns)
