@@ -10,7 +10,7 @@
  * Numbers that look random: x starts at 1 in each workload. A draw makes
  * x = (x * 1103515245 + 12345) % 2^31 and gives x / 65536, which is below 32,768.
  *
- * Digest: h starts at 0. Noting a value makes h = (h % 2^48) * 31 + value. For a refused call the
+ * Digest: h starts at 0. Noting a value, below 2^48, makes h = (h % 2^48) * 31 + value. For a refused call the
  * value is the refusal's number, for an accepted one 16 plus what is said below, or 16 alone.
  *
  * COMMIT (log: any bytes)
@@ -35,7 +35,7 @@
  *   The log and home it leaves are compared between the subjects.
  *
  * OPEN_FULL, OPEN_8, OPEN_64, OPEN_1024 (log and home: made by make_log in workloads.c)
- *   count times Open, noting its ticket. Then Read of the pages 0, 128, 256 and so on up to 3,968,
+ *   count times Open, at least once, noting its ticket. Then Read of the pages 0, 128, 256 and so on up to 3,968,
  *   noting the bytes at 0, 64, 128 and so on up to 960 of each, one by one.
  *   OPEN_FULL: every slot is valid, 990 blocks are walked, 32 pages are dirty.
  *   OPEN_8, OPEN_64, OPEN_1024: every slot is valid, 3, 60 and 1,020 blocks are walked, 2 pages are
