@@ -6,12 +6,21 @@ pub mod sums;
 pub mod wide;
 
 ghost use mathlib.Core.Path.{_≡_};
+ghost use mathlib.Core.Bool.{true, false};
 ghost use Rattle.promises.specs.Sound.{sound};
 ghost use Rattle.soundness.specs.Tests.{inRange, countsLegal};
+ghost use Rattle.soundness.specs.Summed.{Summed, Small};
 use promises::State;
+use sums::Sums;
 
 // The first number that is no sequence: sequences go up to 2^48 - 1.
 pub const SEQUENCE_END: u64 = 281474976710656;
+
+// Whether a state is sound, and the sums over it where it is.
+pub struct Verdict {
+    pub sound: bool,
+    pub sums: Sums,
+}
 
 // Whether the state's single numbers are in range: what keeps the sums from wrapping.
 fn in_range(state: State) -> bool
@@ -56,4 +65,28 @@ pub fn sound(state: State) -> bool
     let pages = dirty::pages_sound(state);
     let staged = queue::staged_sound(state, count);
     pages & staged
+}
+
+// No sound state, and no sums.
+fn unsound() -> Verdict
+    ensures { λ r. ⌜ r .sound ≡ false ⌝ }
+{
+    let sums = Sums {
+        held: 0,
+        waiting: 0,
+        dirty: 0,
+        queued: 0,
+    };
+    Verdict { sound: false, sums }
+}
+
+// Whether a state is sound, and the sums over it where it is.
+pub fn checked(state: State) -> Verdict
+    ensures { λ r. ⌜ (r .sound ≡ sound state) × (sound state ≡ true → Summed state (r .sums) × Small state (r .sums)) ⌝ }
+{
+    if !sound(state) {
+        return unsound();
+    }
+    let sums = sums::sum_up(state);
+    Verdict { sound: true, sums }
 }
