@@ -10,11 +10,11 @@ use lib.Seq.{length-take-le}
 use borrow.Author.Tests.{eq-eqb, ne-eqb}
 use Rattle.promises.specs.declared.State.{State}
 use Rattle.promises.specs.Contents.{total, groupsOf}
-use Rattle.promises.specs.Sums.{blockCount, owedBlocks, reservedUpdates, waitingBlocks}
+use Rattle.promises.specs.Sums.{firstGroups, groupStart, smallest, blockCount, dirtyCount, owedBlocks, reservedUpdates, waitingBlocks}
 use Rattle.soundness.specs.declared.sums.Sums.{Sums}
 use Rattle.promises.specs.Sound.{sizesLegal, ofOldest, sound}
 use Rattle.promises.proofs.Soundness.{and-both, Sound, sound-of}
-use Rattle.promises.proofs.Changes.{stored-few}
+use Rattle.promises.proofs.Changes.{held-is, stored-few}
 use Rattle.block.proofs.Tests.{tests}
 use Rattle.soundness.specs.Tests.{inRange, fitting, countsLegal}
 use Rattle.soundness.specs.Summed.{Addable, Summed, Small}
@@ -41,6 +41,26 @@ blocks-queued s h = blocks-total (groupsOf s) ∙ ap (λ (n : ℕ). total (group
 
 pub waiting-is : (s : State) → s .queued ≤ length (s .groups) → waitingBlocks s ≡ total (groupsOf s) + s .queued - s .stored
 waiting-is s h = ap (λ (n : ℕ). n - s .stored) (blocks-queued s h)
+
+-- the sums from the oldest group, the count of dirty pages and V
+pub summed : (s : State) (low count queued : ℕ) → length (s .groups) ≡ 32 → Addable s → low ≡ smallest (groupStart s) (firstGroups (s .dirty))
+    → (count ≡ dirtyCount s) × (count ≤ 32) → (queued ≡ total (groupsOf s)) × (queued ≤ 8160)
+    → Summed s (record { held = s .next - low; waiting = queued + s .queued - s .stored; dirty = count; queued = queued })
+summed s low count queued long a oldest dirty total =
+    record {
+      held = ap (λ (n : ℕ). s .next - n) (oldest ∙ sym (held-is s));
+      waiting = ap (λ (n : ℕ). n + s .queued - s .stored) (total .0) ∙ sym (waiting-is s (omega (arith, a .queued)));
+      dirty = dirty .0;
+      queued = total .0;
+      held-most = omega (arith, a .next);
+      waiting-most = omega (arith, a .queued);
+      dirty-most = dirty .1;
+      queued-most = total .1;
+    }
+
+-- no more blocks are stored than are queued
+pub stored-most : (s : State) → length (s .groups) ≡ 32 → Addable s → s .stored ≤ total (groupsOf s) + s .queued
+stored-most s long a = omega (arith, blocks-queued s (omega (arith, a .queued)), a .stored-queued)
 
 -- the code's tests of the sums
 pub fit-law : (s : State) (t : Sums) (owed : ℕ) → Summed s t → owed ≡ owedBlocks s

@@ -2,6 +2,7 @@
 -- Assumes nothing.
 use mathlib.Core.Path.{_≡_, sym}
 use mathlib.Core.Bool.{Bool, true, false, _&&_}
+use mathlib.Core.List.{List}
 use Prim.Native.Nat.{ℕ, _+_, _≤_}
 use native.Mathlib.Omega.{arith}
 use native.Mathlib.Nat.{sub-zero}
@@ -9,9 +10,10 @@ use lib.ListN.{length, take}
 use borrow.Author.Tests.{leb-true, ltb-true, le-leb, lt-ltb}
 use Rattle.block.proofs.Tests.{never-both, not-passed, bool-ext}
 use Rattle.promises.specs.declared.State.{State}
+use Rattle.promises.specs.declared.Staged.{Staged}
 use Rattle.promises.specs.Contents.{total, groupsOf}
 use Rattle.promises.specs.Sums.{framesTaken, reservedUpdates}
-use Rattle.promises.specs.Sound.{distinct, dirtyNumbers, areasOf, sizesLegal, ofOldest, stagedOf, ticketSound, slotSumSound, frameSumSound, sequenceSumSound, cleaningSound, sound}
+use Rattle.promises.specs.Sound.{distinct, dirtyNumbers, areasOf, sizesLegal, ofOldest, stagedOf, ticketSound, slotSumSound, frameSumSound, sequenceSumSound, names, cleaningSound, sound}
 use Rattle.promises.proofs.Soundness.{and-both, and2, Sound, sound-of, of-sound}
 use Rattle.soundness.specs.Tests.{inRange, fitting, countsLegal, entriesLegal, pagesLegal, updatesLegal, waitingLegal}
 use Rattle.soundness.proofs.Counts.{InRange, range-of, of-range, reserved-is}
@@ -60,6 +62,16 @@ counts-of s long f =
     } in
     and2 (and2 (of-range s range) (and2 (f .groups) (f .stored)))
     (and2 (and2 (and2 (lt-ltb _ _ (f .ticket)) (le-leb _ _ (f .slotSum))) (le-leb _ _ (f .frameSum))) (le-leb _ _ (f .sequenceSum)))
+
+-- what one pass over the frames and the cleaning tell
+pub surveyed : (s : State) (legal : Bool) (listed : List ℕ) → legal ≡ entriesLegal (s .pages) (s .frames) (s .next) 0 (s .dirty) → listed ≡ dirtyNumbers (s .dirty)
+    → (legal && distinct listed && names (s .cleaning) listed) ≡ pagesLegal s
+surveyed s legal listed e f = rw (e, f)
+
+-- no update waits
+pub none-waiting : (pages frames : ℕ) (staged : List Staged) (count : ℕ) → count ≡ 0 → true ≡ waitingLegal pages frames (take count staged)
+unfolding updatesLegal
+none-waiting pages frames staged count e = rw e
 
 module _ (s : State) (groups-long : length (s .groups) ≡ 32) (staged-long : length (s .staged) ≡ 32) where
   -- counts that fail refuse the state

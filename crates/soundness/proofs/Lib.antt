@@ -1,4 +1,5 @@
 pub mod Scans
+pub mod Marks
 pub mod Counts
 pub mod Entries
 pub mod Decided

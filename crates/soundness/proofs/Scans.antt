@@ -74,6 +74,18 @@ smallest-min : (a x : ℕ) (xs : List ℕ) → smallest (min x a) xs ≡ min x (
 smallest-min a x [] = refl
 smallest-min a x (y ∷ ys) = omega (arith, smallest-min a x ys)
 
+-- the oldest so far once a page's first group is seen, and past a free frame
+module _ (entries : List Dirty) (i low low′ own : ℕ) (h : i < length entries) (so-far : smallest low (firstGroups (drop i entries)) ≡ own) where
+  pub oldest-more : (getD entries i free .first ≡ 0 → ⊥) → low′ ≡ min (getD entries i free .first) low → smallest low′ (firstGroups (drop (i + 1) entries)) ≡ own
+  oldest-more some e =
+      ap (λ (a : ℕ). smallest a (firstGroups (drop (i + 1) entries))) e
+      ∙ smallest-min low (getD entries i free .first) (firstGroups (drop (i + 1) entries))
+      ∙ sym (ap (smallest low) (firsts-more entries i h some)) ∙ so-far
+
+  pub oldest-same : getD entries i free .first ≡ 0 → low′ ≡ low → smallest low′ (firstGroups (drop (i + 1) entries)) ≡ own
+  oldest-same none e =
+      ap (λ (a : ℕ). smallest a (firstGroups (drop (i + 1) entries))) e ∙ sym (ap (smallest low) (firsts-same entries i h none)) ∙ so-far
+
 -- the oldest so far, at a turn of the search
 module _ (entries : List Dirty) (i low : ℕ) (h : i < length entries) where
   abbrev test : Bool
@@ -132,6 +144,37 @@ module _ (pages frames next : ℕ) (entries : List Dirty) (i : ℕ) where
   pub entries-end : length entries ≤ i → entriesLegal pages frames next i (drop i entries) ≡ true
   unfolding entriesLegal
   entries-end h = rw (drop-of-length-le entries h)
+
+pub and-true : (a : Bool) → (a && true) ≡ a
+and-true true = refl
+and-true false = refl
+
+pub and-assoc : (a b c : Bool) → (a && b && c) ≡ (a && (b && c))
+and-assoc true b c = refl
+and-assoc false b c = refl
+
+module _ (pages frames next : ℕ) (entries : List Dirty) (i : ℕ) (legal legal′ whole : Bool) (h : i < length entries)
+    (so-far : (legal && entriesLegal pages frames next i (drop i entries)) ≡ whole) where
+  -- a page's entry is tested
+  pub legal-more : (test : Bool) → test ≡ entryLegal pages frames next i (getD entries i free) → legal′ ≡ (legal && test)
+      → (legal′ && entriesLegal pages frames next (i + 1) (drop (i + 1) entries)) ≡ whole
+  legal-more test e f =
+      let later = entriesLegal pages frames next (i + 1) (drop (i + 1) entries) in
+      ap (λ (b : Bool). b && later) f ∙ ap (λ (b : Bool). legal && b && later) e ∙ and-assoc legal (entryLegal pages frames next i (getD entries i free)) later
+      ∙ ap (λ (b : Bool). legal && b) (sym (entries-turn pages frames next entries i h)) ∙ so-far
+
+  -- a free frame's is legal
+  pub legal-same : getD entries i free .first ≡ 0 → legal′ ≡ legal → (legal′ && entriesLegal pages frames next (i + 1) (drop (i + 1) entries)) ≡ whole
+  legal-same none f =
+      let later = entriesLegal pages frames next (i + 1) (drop (i + 1) entries) in
+      let free-legal : entryLegal pages frames next i (getD entries i free) ≡ true = rw (eq-eqb _ 0 none) in
+      ap (λ (b : Bool). b && later) f ∙ ap (λ (b : Bool). legal && (b && later)) (sym free-legal)
+      ∙ ap (λ (b : Bool). legal && b) (sym (entries-turn pages frames next entries i h)) ∙ so-far
+
+-- the last entry is seen
+pub legal-end : (pages frames next : ℕ) (entries : List Dirty) (i : ℕ) (legal whole : Bool) → length entries ≤ i
+    → (legal && entriesLegal pages frames next i (drop i entries)) ≡ whole → legal ≡ whole
+legal-end pages frames next entries i legal whole h so-far = sym (and-true legal) ∙ ap (λ (b : Bool). legal && b) (sym (entries-end pages frames next entries i h)) ∙ so-far
 
 module _ (pages frames : ℕ) (staged : List Staged) (count i : ℕ) (fits : count ≤ length staged) where
   pub updates-turn : i < count

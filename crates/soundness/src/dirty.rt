@@ -1,15 +1,24 @@
-// The dirty pages of a state: each frame's entry, their numbers, and the page that a cleaning names.
+// The dirty pages of a state: one pass over the frames' entries, and the page that a cleaning names.
 ghost use mathlib.Core.Path.{_≡_};
-ghost use Prim.Native.Nat.{_≤_};
+ghost use mathlib.Core.Bool.{_&&_};
+ghost use Prim.Native.Nat.{_≤_, min};
 ghost use lib.ListN.{length, take};
-ghost use Rattle.promises.specs.Sound.{dirtyNumbers, names};
-ghost use Rattle.soundness.specs.Tests.{entryLegal, entriesLegal, pagesLegal};
+ghost use Rattle.promises.specs.Sums.{smallest, firstGroups};
+ghost use Rattle.promises.specs.Sound.{distinct, dirtyNumbers, names};
+ghost use Rattle.soundness.specs.Tests.{entryLegal, entriesLegal};
 use crate::numbers;
 use crate::wide;
-use numbers::Numbers;
 use promises::Cleaning;
 use promises::Dirty;
-use promises::State;
+
+// What one pass over the frames tells: whether every entry is as it has to be, how many pages are dirty, the oldest of a start
+// and of the first groups, and the numbers of the dirty pages.
+pub struct Survey {
+    pub legal: bool,
+    pub count: usize,
+    pub low: u64,
+    pub list: [u16; 32],
+}
 
 // Whether a frame is free, or below F with a page below P and a first group below next.
 fn entry_sound(entry: Dirty, frame: usize, pages: usize, frames: usize, next: u64) -> bool
@@ -19,37 +28,43 @@ fn entry_sound(entry: Dirty, frame: usize, pages: usize, frames: usize, next: u6
     (entry.first == 0) | ((frame < frames) & (page < pages) & (entry.first < next))
 }
 
-// Whether every frame's entry is as it has to be.
-fn entries_sound(state: State) -> bool
-    ensures { λ r. ⌜ r ≡ entriesLegal (state .pages) (state .frames) (state .next) 0 (state .dirty) ⌝ }
+// The smaller of two numbers.
+fn lower(a: u64, b: u64) -> u64
+    ensures { λ r. ⌜ r ≡ min b a ⌝ }
 {
-    let mut i = 0;
-    while i < 32 {
-        let entry = state.dirty[i];
-        if !entry_sound(entry, i, state.pages, state.frames, state.next) {
-            return false;
-        }
-        i += 1;
+    if b < a {
+        return b;
     }
-    true
+    a
 }
 
-// The numbers of the dirty pages.
-pub fn pages_of(dirty: [Dirty; 32]) -> Numbers
-    ensures { λ r. ⌜ (take (r .count) (r .list) ≡ dirtyNumbers dirty) × (r .count ≤ 32) × (length (r .list) ≡ 32) ⌝ }
+// One pass over the frames.
+pub fn survey_of(dirty: [Dirty; 32], pages: usize, frames: usize, next: u64, own: u64) -> Survey
+    ensures { λ r. ⌜ (r .legal ≡ entriesLegal pages frames next 0 dirty) × (r .count ≡ length (firstGroups dirty)) × (r .count ≤ 32)
+        × (r .low ≡ smallest own (firstGroups dirty)) × (r .low ≤ own)
+        × (take (r .count) (r .list) ≡ dirtyNumbers dirty) × (length (r .list) ≡ 32) ⌝ }
 {
     let mut list = [0u16; 32];
     let mut count = 0;
+    let mut low = own;
+    let mut legal = true;
     let mut i = 0;
     while i < 32 {
         let entry = dirty[i];
         if entry.first != 0 {
+            legal = legal & entry_sound(entry, i, pages, frames, next);
+            low = lower(low, entry.first);
             list[count] = entry.page;
             count += 1;
         }
         i += 1;
     }
-    Numbers { count, list }
+    Survey {
+        legal,
+        count,
+        low,
+        list,
+    }
 }
 
 // Whether a cleaning names one of these pages.
@@ -65,16 +80,13 @@ fn named(cleaning: Cleaning, pages: &[u16]) -> bool
 }
 
 // Whether the dirty pages are as they have to be, and a cleaning names one of them.
-pub fn pages_sound(state: State) -> bool
-    ensures { λ r. ⌜ r ≡ pagesLegal state ⌝ }
+pub fn pages_sound(cleaning: Cleaning, survey: Survey) -> bool
+    requires { ⌜ (survey .count ≤ 32) × (length (survey .list) ≡ 32) ⌝ }
+    ensures { λ r. ⌜ r ≡ survey .legal && distinct (take (survey .count) (survey .list)) && names cleaning (take (survey .count) (survey .list)) ⌝ }
 {
-    let entries = entries_sound(state);
-    let dirty = state.dirty;
-    let pages = pages_of(dirty);
-    let count = pages.count;
-    let list = pages.list;
+    let count = survey.count;
+    let list = survey.list;
     let apart = numbers::all_distinct(&list[..count]);
-    let cleaning = state.cleaning;
     let named = named(cleaning, &list[..count]);
-    entries & apart & named
+    survey.legal & apart & named
 }

@@ -8,7 +8,7 @@ pub mod wide;
 ghost use mathlib.Core.Path.{_≡_};
 ghost use mathlib.Core.Bool.{true, false};
 ghost use Rattle.promises.specs.Sound.{sound};
-ghost use Rattle.soundness.specs.Tests.{inRange, countsLegal};
+ghost use Rattle.soundness.specs.Tests.{inRange};
 ghost use Rattle.soundness.specs.Summed.{Summed, Small};
 use promises::State;
 use sums::Sums;
@@ -40,33 +40,6 @@ fn in_range(state: State) -> bool
         & (stored < state.next)
 }
 
-// Whether the numbers, the queue and the sums are sound: all but the entries of the arrays.
-fn counts_sound(state: State) -> bool
-    ensures { λ r. ⌜ r ≡ countsLegal state ⌝ }
-{
-    if !in_range(state) {
-        return false;
-    }
-    if !queue::groups_sound(state) {
-        return false;
-    }
-    let sums = sums::added_up(state);
-    sums::fit(state, sums)
-}
-
-// Whether a state is sound.
-pub fn sound(state: State) -> bool
-    ensures { λ r. ⌜ r ≡ sound state ⌝ }
-{
-    if !counts_sound(state) {
-        return false;
-    }
-    let count = sums::queued_updates(state) + state.described;
-    let pages = dirty::pages_sound(state);
-    let staged = queue::staged_sound(state, count);
-    pages & staged
-}
-
 // No sound state, and no sums.
 fn unsound() -> Verdict
     ensures { λ r. ⌜ r .sound ≡ false ⌝ }
@@ -84,9 +57,48 @@ fn unsound() -> Verdict
 pub fn checked(state: State) -> Verdict
     ensures { λ r. ⌜ (r .sound ≡ sound state) × (sound state ≡ true → Summed state (r .sums) × Small state (r .sums)) ⌝ }
 {
-    if !sound(state) {
+    if !in_range(state) {
         return unsound();
     }
-    let sums = sums::sum_up(state);
-    Verdict { sound: true, sums }
+    if !queue::groups_sound(state) {
+        return unsound();
+    }
+    let dirty = state.dirty;
+    let survey = dirty::survey_of(
+        dirty,
+        state.pages,
+        state.frames,
+        state.next,
+        state.next - state.stored as u64,
+    );
+    let queued = sums::queued_updates(state);
+    let sums = Sums {
+        held: (state.next - survey.low) as usize,
+        waiting: queued + state.queued - state.stored,
+        dirty: survey.count,
+        queued,
+    };
+    if !sums::fit(state, sums) {
+        return unsound();
+    }
+    let cleaning = state.cleaning;
+    let pages = dirty::pages_sound(cleaning, survey);
+    let count = queued + state.described;
+    if count == 0 {
+        return Verdict { sound: pages, sums };
+    }
+    let staged = state.staged;
+    let waiting = queue::staged_sound(staged, count, state.pages, state.frames);
+    Verdict {
+        sound: pages & waiting,
+        sums,
+    }
+}
+
+// Whether a state is sound.
+pub fn sound(state: State) -> bool
+    ensures { λ r. ⌜ r ≡ sound state ⌝ }
+{
+    let verdict = checked(state);
+    verdict.sound
 }

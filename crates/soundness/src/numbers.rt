@@ -2,6 +2,7 @@
 ghost use mathlib.Core.Path.{_≡_};
 ghost use lib.ListN.{drop};
 ghost use Rattle.promises.specs.Sound.{member, distinct};
+use crate::wide;
 
 // The first count numbers of a list: page numbers or areas.
 pub struct Numbers {
@@ -23,8 +24,8 @@ pub fn member_from(numbers: &[u16], from: usize, number: u16) -> bool
     false
 }
 
-// Whether no number stands twice.
-pub fn all_distinct(numbers: &[u16]) -> bool
+// Whether no number stands twice: each is held against the later ones. For few numbers.
+fn few_distinct(numbers: &[u16]) -> bool
     ensures { λ r. ⌜ r ≡ distinct (now (numbers .entry)) ⌝ }
 {
     let mut i = 0;
@@ -36,4 +37,35 @@ pub fn all_distinct(numbers: &[u16]) -> bool
         i += 1;
     }
     true
+}
+
+// The same by a mark for each number below 4,096: for many numbers.
+// From the last to the first, so that the marks are those of the later numbers.
+fn many_distinct(numbers: &[u16]) -> bool
+    ensures { λ r. ⌜ r ≡ distinct (now (numbers .entry)) ⌝ }
+{
+    let mut seen = [0u8; 4096];
+    let mut i = numbers.len();
+    while 0 < i {
+        i -= 1;
+        let number = wide::field(numbers[i]);
+        if 4096 <= number {
+            return few_distinct(numbers);
+        }
+        if seen[number] != 0 {
+            return false;
+        }
+        seen[number] = 1;
+    }
+    true
+}
+
+// Whether no number stands twice.
+pub fn all_distinct(numbers: &[u16]) -> bool
+    ensures { λ r. ⌜ r ≡ distinct (now (numbers .entry)) ⌝ }
+{
+    if numbers.len() < 9 {
+        return few_distinct(numbers);
+    }
+    many_distinct(numbers)
 }

@@ -63,14 +63,14 @@ fn update_sound(staged: Staged, pages: usize, frames: usize) -> bool
 }
 
 // Whether each of the first so many updates is as it has to be by itself.
-fn updates_sound(state: State, count: usize) -> bool
+fn updates_sound(staged: [Staged; 32], count: usize, pages: usize, frames: usize) -> bool
     requires { ⌜ count ≤ 32 ⌝ }
-    ensures { λ r. ⌜ r ≡ updatesLegal (state .pages) (state .frames) (take count (state .staged)) ⌝ }
+    ensures { λ r. ⌜ r ≡ updatesLegal pages frames (take count staged) ⌝ }
 {
     let mut i = 0;
     while i < count {
-        let staged = state.staged[i];
-        if !update_sound(staged, state.pages, state.frames) {
+        let update = staged[i];
+        if !update_sound(update, pages, frames) {
             return false;
         }
         i += 1;
@@ -94,12 +94,11 @@ pub fn areas_of(staged: [Staged; 32], count: usize) -> Numbers
 }
 
 // Whether the first so many updates are as they have to be, in distinct areas.
-pub fn staged_sound(state: State, count: usize) -> bool
+pub fn staged_sound(staged: [Staged; 32], count: usize, pages: usize, frames: usize) -> bool
     requires { ⌜ count ≤ 32 ⌝ }
-    ensures { λ r. ⌜ r ≡ waitingLegal (state .pages) (state .frames) (take count (state .staged)) ⌝ }
+    ensures { λ r. ⌜ r ≡ waitingLegal pages frames (take count staged) ⌝ }
 {
-    let updates = updates_sound(state, count);
-    let staged = state.staged;
+    let updates = updates_sound(staged, count, pages, frames);
     let areas = areas_of(staged, count);
     let list = areas.list;
     let apart = numbers::all_distinct(&list[..count]);

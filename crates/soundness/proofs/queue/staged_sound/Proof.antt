@@ -17,19 +17,19 @@ areas-of-requires : tie.Need-areas-of-requires
 areas-of-requires c κs = search needs
 
 array-share-prefix-list : tie.Need-array-share-prefix-list
-array-share-prefix-list c = omega (arith, c .before .areas-of .ensures)
+array-share-prefix-list c = omega (arith, (c .before) .areas-of .ensures)
 
 slice-aggregate-all-distinct : tie.Need-slice-aggregate-all-distinct
-slice-aggregate-all-distinct c = sym (length-take-le _ _ (omega (arith, c .before .before .areas-of .ensures)))
+slice-aggregate-all-distinct c = sym (length-take-le _ _ (omega (arith, (c .before .before) .areas-of .ensures)))
 
 all-distinct-requires : tie.Need-all-distinct-requires
 all-distinct-requires c κs = search needs
 
 returns : tie.Need-returns
 returns c =
-    let areas = c .before .before .before .areas-of .ensures in
-    let same = ap (λ (n : ℕ). take n (c .before .before .before .areas-of .result .list)) (sym (areas .1)) ∙ areas .0 in
-    rw (c .before .before .before .before .before .updates-sound .ensures, c .all-distinct .ensures ∙ ap distinct same)
+    let areas = (c .before .before .before) .areas-of .ensures in
+    let same = ap (λ (n : ℕ). take n ((c .before .before .before) .areas-of .result .list)) (sym (areas .1)) ∙ areas .0 in
+    rw ((c .before .before .before .before) .updates-sound .ensures, c .all-distinct .ensures ∙ ap distinct same)
 
 pub staged-sound-spec : {M : Type 1} → statement M
 staged-sound-spec =

@@ -12,33 +12,33 @@ use Rattle.soundness.proofs.queue.updates_sound.Statement.{statement}
 use Rattle.soundness.proofs.queue.updates_sound.Tie as tie
 
 abbrev Inv-loop : tie.InvT-loop
-Inv-loop count state i₀ i = (i ≤ count) × (updatesLegal (state .pages) (state .frames) (drop i (take count (state .staged))) ≡ updatesLegal (state .pages) (state .frames) (take count (state .staged)))
+Inv-loop count pages frames staged i₀ i = (i ≤ count) × (updatesLegal pages frames (drop i (take count staged)) ≡ updatesLegal pages frames (take count staged))
 
 abbrev μ-loop : tie.MeasureT-loop
-μ-loop count state i₀ i = count - i
+μ-loop count pages frames staged i₀ i = count - i
 
-long-at : (c : tie.Start Inv-loop μ-loop) → length (c .args .t1 .staged) ≡ 32
+long-at : (c : tie.Start Inv-loop μ-loop) → length (c .args .t1) ≡ 32
 long-at c = search (needs, length-mapped)
 
 loop-holds : tie.Need-loop-holds Inv-loop μ-loop
 loop-holds c = (search needs, refl)
 
-mul-staged : tie.Need-mul-staged Inv-loop μ-loop
-mul-staged c = search needs
+mul-update : tie.Need-mul-update Inv-loop μ-loop
+mul-update c = search needs
 
-element-copy-out-staged : tie.Need-element-copy-out-staged Inv-loop μ-loop
-element-copy-out-staged c = search needs
+array-copy-out-update : tie.Need-array-copy-out-update Inv-loop μ-loop
+array-copy-out-update c = search needs
 
 update-sound-requires : tie.Need-update-sound-requires Inv-loop μ-loop
 update-sound-requires c κs = search needs
 
 returns : tie.Need-returns Inv-loop μ-loop
 returns c =
-    let s = c .before .before .before .before .before .args .t1 in
-    let at = c .before .before .before .before .loop in
+    let args = (c .before .before .before .before .before) .args in
+    let at = (c .before .before .before .before) .loop in
     let long = long-at (c .before .before .before .before .before) in
-    let turn = updates-turn (s .pages) (s .frames) (s .staged) (c .before .before .before .before .before .args .count) (at .i) (omega arith) (omega arith) in
-    let fails = sym (c .before .update-sound .ensures) ∙ not-true _ (c .if1 .taken) in
+    let turn = updates-turn (args .pages) (args .frames) (args .t1) (args .count) (at .i) (omega arith) (omega arith) in
+    let fails = sym ((c .before) .update-sound .ensures) ∙ not-true _ (c .if1 .taken) in
     sym (turn ∙ rw fails) ∙ at .inv .1
 
 add-i : tie.Need-add-i Inv-loop μ-loop
@@ -49,19 +49,19 @@ loop-less c = search needs
 
 loop-again : tie.Need-loop-again Inv-loop μ-loop
 loop-again c =
-    let s = c .before .before .before .before .before .args .t1 in
-    let at = c .before .before .before .before .loop in
+    let args = (c .before .before .before .before .before) .args in
+    let at = (c .before .before .before .before) .loop in
     let long = long-at (c .before .before .before .before .before) in
-    let turn = updates-turn (s .pages) (s .frames) (s .staged) (c .before .before .before .before .before .args .count) (at .i) (omega arith) (omega arith) in
-    let passes = sym (c .before .update-sound .ensures) ∙ not-false _ (c .if1 .left) in
+    let turn = updates-turn (args .pages) (args .frames) (args .t1) (args .count) (at .i) (omega arith) (omega arith) in
+    let passes = sym ((c .before) .update-sound .ensures) ∙ not-false _ (c .if1 .left) in
     (search needs, sym (turn ∙ rw passes) ∙ at .inv .1)
 
 returns-2 : tie.Need-returns-2 Inv-loop μ-loop
 returns-2 c =
-    let s = c .before .before .args .t1 in
-    let at = c .before .loop in
+    let args = (c .before .before) .args in
+    let at = (c .before) .loop in
     let long = long-at (c .before .before) in
-    sym (updates-end (s .pages) (s .frames) (s .staged) (c .before .before .args .count) (at .i) (omega arith) (omega arith)) ∙ at .inv .1
+    sym (updates-end (args .pages) (args .frames) (args .t1) (args .count) (at .i) (omega arith) (omega arith)) ∙ at .inv .1
 
 pub updates-sound-spec : {M : Type 1} → statement M
 updates-sound-spec =
@@ -70,8 +70,8 @@ updates-sound-spec =
     Inv-loop
     μ-loop
     loop-holds
-    mul-staged
-    element-copy-out-staged
+    mul-update
+    array-copy-out-update
     update-sound-requires
     returns
     add-i

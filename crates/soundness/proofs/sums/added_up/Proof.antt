@@ -1,10 +1,8 @@
 -- `sums::added_up` meets its contract.
 -- Assumes nothing.
-use mathlib.Core.Path.{_≡_, sym, ap, _∙_}
-use Prim.Native.Nat.{ℕ, _+_, _-_}
+use mathlib.Core.Path.{_≡_}
 use lib.ListN.{length}
-use Rattle.promises.proofs.Changes.{held-is}
-use Rattle.soundness.proofs.Counts.{blocks-queued, waiting-is}
+use Rattle.soundness.proofs.Counts.{summed, stored-most}
 use borrow.Author.Needs.{needs}
 use native.Mathlib.Omega.{arith}
 use Rattle.soundness.proofs.sums.added_up.Statement.{statement}
@@ -32,7 +30,7 @@ sub-t8 : tie.Need-sub-t8
 sub-t8 c =
     let s = c .before .before .before .before .before .before .args .state in
     let long : length (s .groups) ≡ 32 = long-at (c .before .before .before .before .before .before) in
-    omega (arith, blocks-queued s (omega arith), c .before .before .before .before .before .before .pre .stored-queued)
+    omega (arith, stored-most s long (c .before .before .before .before .before .before .pre), c .before .before .before .before .before .queued-updates .ensures .0)
 
 dirty-pages-requires : tie.Need-dirty-pages-requires
 dirty-pages-requires c κs = search needs
@@ -41,17 +39,7 @@ returns : tie.Need-returns
 returns c =
     let s = c .before .before .before .before .before .before .before .args .state in
     let long : length (s .groups) ≡ 32 = long-at (c .before .before .before .before .before .before .before) in
-    let total = c .before .before .before .before .before .before .queued-updates .ensures in
-    record {
-      held = ap (λ (n : ℕ). s .next - n) (c .before .before .before .before .oldest .ensures .0 ∙ sym (held-is s));
-      waiting = ap (λ (n : ℕ). n + s .queued - s .stored) (total .0) ∙ sym (waiting-is s (omega arith));
-      dirty = c .dirty-pages .ensures .0;
-      queued = total .0;
-      held-most = omega (arith, c .before .before .before .before .before .before .before .pre .next);
-      waiting-most = omega arith;
-      dirty-most = omega arith;
-      queued-most = omega arith;
-    }
+    summed s _ _ _ long (c .before .before .before .before .before .before .before .pre) (c .before .before .before .before .oldest .ensures .0) (c .dirty-pages .ensures) (c .before .before .before .before .before .before .queued-updates .ensures)
 
 pub added-up-spec : {M : Type 1} → statement M
 added-up-spec =

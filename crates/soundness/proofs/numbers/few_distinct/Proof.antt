@@ -1,4 +1,4 @@
--- `numbers::all_distinct` meets its contract. The loop's invariant: all numbers are distinct if those left are.
+-- `numbers::few_distinct` meets its contract. The loop's invariant: all numbers are distinct if those left are.
 -- Assumes nothing.
 use Prim.Native.Nat.{_-_, _≤_}
 use mathlib.Core.Path.{_≡_, refl, sym, _∙_}
@@ -7,8 +7,8 @@ use Rattle.promises.specs.Sound.{distinct}
 use Rattle.soundness.proofs.Scans.{from-cons}
 use borrow.Author.Needs.{needs}
 use native.Mathlib.Omega.{arith}
-use Rattle.soundness.proofs.numbers.all_distinct.Statement.{statement}
-use Rattle.soundness.proofs.numbers.all_distinct.Tie as tie
+use Rattle.soundness.proofs.numbers.few_distinct.Statement.{statement}
+use Rattle.soundness.proofs.numbers.few_distinct.Tie as tie
 
 abbrev Inv-loop : tie.InvT-loop
 Inv-loop numbers i₀ i = (i ≤ length numbers) × (distinct (drop i numbers) ≡ distinct numbers)
@@ -53,8 +53,8 @@ returns-2 c =
     let end : length (c .before .before .before .args .numbers .now) ≤ at .i = omega arith in
     simp (drop-of-length-le (c .before .before .before .args .numbers .now) end) at (at .inv .1)
 
-pub all-distinct-spec : {M : Type 1} → statement M
-all-distinct-spec =
+pub few-distinct-spec : {M : Type 1} → statement M
+few-distinct-spec =
     tie.close
     (tie.spec
     Inv-loop

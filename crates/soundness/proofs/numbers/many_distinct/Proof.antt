@@ -1,0 +1,96 @@
+-- `numbers::many_distinct` meets its contract. The loop's invariant: the numbers seen are distinct, and they are those marked.
+-- Assumes nothing.
+use Prim.Native.Nat.{ℕ, _-_, _≤_}
+use mathlib.Core.Path.{_≡_, sym, ap, _∙_}
+use mathlib.Core.Bool.{true}
+use lib.ListN.{length, drop}
+use lib.Seq.{drop-length}
+use Rattle.promises.specs.Sound.{distinct}
+use Rattle.soundness.proofs.Marks.{Marked, marked-none, step-back, marked-twice, marked-once, marked-on}
+use borrow.Author.Needs.{needs}
+use native.Mathlib.Omega.{arith}
+use Rattle.soundness.proofs.numbers.many_distinct.Statement.{statement}
+use Rattle.soundness.proofs.numbers.many_distinct.Tie as tie
+
+abbrev Inv-loop : tie.InvT-loop
+Inv-loop numbers seen₀ i₀ seen i = (i ≤ length numbers) × (distinct (drop i numbers) ≡ true) × Marked 4096 seen (drop i numbers)
+
+abbrev μ-loop : tie.MeasureT-loop
+μ-loop numbers seen₀ i₀ seen i = i
+
+loop-holds : tie.Need-loop-holds Inv-loop μ-loop
+loop-holds c =
+    let numbers = (c .before) .args .numbers .now in
+    (search needs, ap distinct (drop-length numbers), marked-none 4096 numbers)
+
+sub-i : tie.Need-sub-i Inv-loop μ-loop
+sub-i c = search needs
+
+mul-field : tie.Need-mul-field Inv-loop μ-loop
+mul-field c = search needs
+
+shared-slice-read-field : tie.Need-shared-slice-read-field Inv-loop μ-loop
+shared-slice-read-field c = search needs
+
+field-requires : tie.Need-field-requires Inv-loop μ-loop
+field-requires c κs = search needs
+
+few-distinct-requires : tie.Need-few-distinct-requires Inv-loop μ-loop
+few-distinct-requires c κs = search needs
+
+returns : tie.Need-returns Inv-loop μ-loop
+returns c = c .few-distinct .ensures
+
+array-read-if2 : tie.Need-array-read-if2 Inv-loop μ-loop
+array-read-if2 c = search needs
+
+returns-2 : tie.Need-returns-2 Inv-loop μ-loop
+returns-2 c =
+    let numbers = (c .before .before .before .before .before .before .before) .args .numbers .now in
+    let at = (c .before .before .before .before .before) .loop in
+    let number = (c .before .before) .field in
+    let before = step-back numbers (at .i) (number .result) (omega arith) (at .inv .0) (number .ensures) in
+    marked-twice 4096 (at .seen) numbers (at .i) (at .i - 1) (number .result) (at .inv .2) (omega arith) before (c .if2 .taken)
+
+array-write-seen : tie.Need-array-write-seen Inv-loop μ-loop
+array-write-seen c = search needs
+
+loop-less : tie.Need-loop-less Inv-loop μ-loop
+loop-less c = search needs
+
+loop-again : tie.Need-loop-again Inv-loop μ-loop
+loop-again c =
+    let numbers = (c .before .before .before .before .before .before .before) .args .numbers .now in
+    let at = (c .before .before .before .before .before) .loop in
+    let number = (c .before .before) .field in
+    let before = step-back numbers (at .i) (number .result) (omega arith) (at .inv .0) (number .ensures) in (
+      omega arith,
+      marked-once 4096 (at .seen) numbers (at .i) (at .i - 1) (number .result) (at .inv .2) (omega arith) before (c .if2 .left) (at .inv .1),
+      marked-on 4096 (at .seen) numbers (at .i) (at .i - 1) (number .result) (at .inv .2) (omega arith) before,
+    )
+
+returns-3 : tie.Need-returns-3 Inv-loop μ-loop
+returns-3 c =
+    let at = (c .before) .loop in
+    let first : at .i ≡ 0 = omega arith in
+    sym (at .inv .1) ∙ ap (λ (i : ℕ). distinct (drop i ((c .before .before .before) .args .numbers .now))) first
+
+pub many-distinct-spec : {M : Type 1} → statement M
+many-distinct-spec =
+    tie.close
+    (tie.spec
+    Inv-loop
+    μ-loop
+    loop-holds
+    sub-i
+    mul-field
+    shared-slice-read-field
+    field-requires
+    few-distinct-requires
+    returns
+    array-read-if2
+    returns-2
+    array-write-seen
+    loop-less
+    loop-again
+    returns-3)
