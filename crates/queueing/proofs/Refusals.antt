@@ -33,13 +33,11 @@ use Rattle.promises.proofs.Soundness.{Sound, sound-of}
 use Rattle.promises.proofs.Changes.{pick-zero, pick-other, groups-count}
 use Rattle.soundness.specs.declared.sums.Sums.{Sums}
 use Rattle.soundness.specs.Summed.{Summed}
+use Rattle.soundness.proofs.Scans.{and-assoc}
 use Rattle.soundness.proofs.Counts.{reserved-is}
+use Rattle.queueing.specs.Queueing.{describeNumber}
 
 -- ---- the tests
-
-and-assoc : (a b c : Bool) → (a && b && c) ≡ (a && (b && c))
-and-assoc true b c = refl
-and-assoc false b c = refl
 
 pub log-fits : (l : ℕ) → (eqb (l / 512 * 512) l && leb 8 (l / 512) && leb (l / 512) 1024) ≡ logFits l
 log-fits l = and-assoc (eqb (l / 512 * 512) l) (leb 8 (l / 512)) (leb (l / 512) 1024)
@@ -56,6 +54,12 @@ module _ (s : State) (t : Sums) (u : ℕ) (h : Summed s t) where
 
   pub room-law : (leb (t .held + t .waiting + t .dirty + t .queued + 2 * u + 1) (s .slots) && leb (t .dirty + t .queued + u) (s .frames)) ≡ beginHasRoom s u
   room-law = rw (h .held, h .waiting, h .dirty, h .queued)
+
+-- Describe decides from the state's numbers
+pub describe-number : (s : State) (sounds : Bool) (staging page offset count : ℕ) → sounds ≡ sound s
+    → describeNumber sounds (s .frames) (s .reserved) (s .pages) (s .described) staging page offset count ≡ describeRefusal s staging page offset count
+unfolding describeRefusal
+describe-number s sounds staging page offset count e = rw e
 
 -- ---- the refusals' numbers
 
@@ -114,9 +118,9 @@ closable s long e =
 
 -- there is room for one update more, and its numbers fit
 pub record Describable (s : State) (staging page offset count : ℕ) : Type 0 where
+  pub sounds : sound s ≡ true
   pub waiting : total (groupsOf s) + s .described < s .frames
   pub frames : s .frames ≤ 32
-  pub queued : s .queued ≤ 32
   pub staging-long : staging ≡ s .frames * 472
   pub page-fits : page < 4096
   pub offset-fits : offset + count ≤ 1024
@@ -135,9 +139,9 @@ describable s staging page offset count long e =
     let more : s .described < s .reserved = ltb-true _ _ (c5 .0) in
     let l = simp tests at (c3 .0) in
     record {
+      sounds = c2 .0;
       waiting = omega (arith, f .frameSum, reserved-is s);
       frames = f .frames .1;
-      queued = omega (arith, f .queued);
       staging-long = eqb-true _ _ (c1 .0);
       page-fits = omega (arith, f .pages);
       offset-fits = omega arith;

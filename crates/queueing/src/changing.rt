@@ -48,16 +48,15 @@ pub fn added(state: State, count: usize, staged: Staged) -> State
 }
 
 // The lowest staging area that none of the count waiting updates holds.
-pub fn free_area(state: State, count: usize) -> u8
-    requires { ⌜ (count < state .frames) × (state .frames ≤ 32) ⌝ }
-    ensures { λ r. ⌜ (r < state .frames) × (member r (areasOf (take count (state .staged))) ≡ false) ⌝ }
+pub fn free_area(staged: [Staged; 32], count: usize, frames: usize) -> u8
+    requires { ⌜ (count < frames) × (frames ≤ 32) ⌝ }
+    ensures { λ r. ⌜ (r < frames) × (member r (areasOf (take count staged)) ≡ false) ⌝ }
 {
-    let staged = state.staged;
     let areas = soundness::queue::areas_of(staged, count);
     let list = areas.list;
-    let frames = state.frames as u8;
+    let end = frames as u8;
     let mut area: u8 = 0;
-    while area < frames {
+    while area < end {
         let number = soundness::wide::short(area);
         if !soundness::numbers::member_from(&list[..count], 0, number) {
             return area;

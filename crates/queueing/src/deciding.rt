@@ -1,5 +1,6 @@
 // What each call is refused with, by the paper's number, 0 where it is accepted; tested in the paper's order.
 ghost use mathlib.Core.Path.{_≡_};
+ghost use mathlib.Core.Bool.{true};
 ghost use Prim.Native.Nat.{_+_, _≤_};
 ghost use lib.Dec.{leb};
 ghost use Rattle.block.specs.Sizes.{sequenceEnd};
@@ -7,11 +8,11 @@ ghost use Rattle.promises.specs.Answers.{numberOf};
 ghost use Rattle.promises.specs.Sums.{waitingBlocks};
 ghost use Rattle.promises.specs.Format.{formatRefusal};
 ghost use Rattle.promises.specs.Begin.{beginInRange, beginHasRoom, beginRefusal};
-ghost use Rattle.promises.specs.Describe.{describeRefusal};
 ghost use Rattle.promises.specs.End.{endRefusal};
 ghost use Rattle.promises.specs.Settled.{settledRefusal};
 ghost use Rattle.promises.specs.Read.{readRefusal};
 ghost use Rattle.soundness.specs.Summed.{Summed, Small};
+ghost use Rattle.queueing.specs.Queueing.{describeNumber};
 use block::Block;
 use promises::Refusal;
 use promises::State;
@@ -80,7 +81,8 @@ fn begin_has_room(state: State, sums: Sums, u: usize) -> bool
 pub fn begin_refusal(state: State, u: usize) -> u64
     ensures { λ r. ⌜ (r ≡ beginRefusal state u) × (r ≤ 11) ⌝ }
 {
-    if !soundness::sound(state) {
+    let verdict = soundness::checked(state);
+    if !verdict.sound {
         return 2;
     }
     if !begin_in_range(state, u) {
@@ -89,7 +91,7 @@ pub fn begin_refusal(state: State, u: usize) -> u64
     if state.reserved != 0 {
         return 4;
     }
-    let sums = soundness::sums::sum_up(state);
+    let sums = verdict.sums;
     if !sequences_left(state, sums, u) {
         return 6;
     }
@@ -99,29 +101,34 @@ pub fn begin_refusal(state: State, u: usize) -> u64
     0
 }
 
-// Describe, of the lengths of staging and of the bytes: 2; 1; 4; 3; 5.
+// Describe, of whether the state is sound, of its numbers, and of the lengths of staging and of the bytes: 2; 1; 4; 3; 5.
 pub fn describe_refusal(
-    state: State,
+    sound: bool,
+    frames: usize,
+    reserved: usize,
+    pages: usize,
+    described: usize,
     staging: usize,
     page: usize,
     offset: usize,
     count: usize,
 ) -> u64
-    ensures { λ r. ⌜ (r ≡ describeRefusal state staging page offset count) × (r ≤ 11) ⌝ }
+    requires { ⌜ (sound ≡ true → frames ≤ 32) ⌝ }
+    ensures { λ r. ⌜ (r ≡ describeNumber sound frames reserved pages described staging page offset count) × (r ≤ 11) ⌝ }
 {
-    if !soundness::sound(state) {
+    if !sound {
         return 2;
     }
-    if staging != state.frames * Block::NEW_BYTES {
+    if staging != frames * Block::NEW_BYTES {
         return 1;
     }
-    if state.reserved == 0 {
+    if reserved == 0 {
         return 4;
     }
-    if !block::legal_place(state.pages, page, offset, count) {
+    if !block::legal_place(pages, page, offset, count) {
         return 3;
     }
-    if state.described < state.reserved {
+    if described < reserved {
         return 0;
     }
     5

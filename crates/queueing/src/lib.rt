@@ -61,7 +61,18 @@ pub fn describe(
 ) -> Outcome
     ensures { λ r. ⌜ Describes state (updateOf page offset (now (bytes .entry))) (now (staging .entry)) r (now (staging .exit)) ⌝ }
 {
-    let number = deciding::describe_refusal(state, staging.len(), page, offset, bytes.len());
+    let verdict = soundness::checked(state);
+    let number = deciding::describe_refusal(
+        verdict.sound,
+        state.frames,
+        state.reserved,
+        state.pages,
+        state.described,
+        staging.len(),
+        page,
+        offset,
+        bytes.len(),
+    );
     if number != 0 {
         let refusal = deciding::refusal_of(number);
         return Outcome {
@@ -69,8 +80,10 @@ pub fn describe(
             answer: Answer::Refused(refusal),
         };
     }
-    let count = soundness::sums::queued_updates(state) + state.described;
-    let area = changing::free_area(state, count);
+    let sums = verdict.sums;
+    let count = sums.queued + state.described;
+    let waiting = state.staged;
+    let area = changing::free_area(waiting, count, state.frames);
     let start = soundness::wide::byte(area) * Block::NEW_BYTES;
     area::copy_part(staging, start, bytes, 0, bytes.len());
     let staged = Staged {

@@ -7,9 +7,10 @@ use denote.Ref.{now}
 use Rattle.promises.specs.Contents.{total, groupsOf}
 use Rattle.promises.specs.Sound.{member, areasOf}
 use Rattle.promises.specs.Describe.{describeRefusal}
+use Rattle.promises.proofs.Soundness.{sound-of}
 use Rattle.soundness.proofs.Scans.{length-mapped}
 use Rattle.queueing.specs.Queueing.{updateOf}
-use Rattle.queueing.proofs.Refusals.{Describable, describable, describe-refused}
+use Rattle.queueing.proofs.Refusals.{Describable, describable, describe-number, describe-refused}
 use Rattle.queueing.proofs.Places.{describe-done}
 use borrow.Author.Needs.{needs}
 use native.Mathlib.Omega.{arith}
@@ -22,34 +23,44 @@ groups-long c = search needs
 staged-long : (c : tie.Start) → length (c .args .state .staged) ≡ 32
 staged-long c = search (needs, length-mapped)
 
+-- the number decided is the promise's
+number-at : (c : tie.After-describe-refusal)
+    → let args = c .before .before .before .before .args in c .describe-refusal .result ≡ describeRefusal (args .state) (length (now (args .staging))) (args .page) (args .offset) (length (now (args .bytes)))
+number-at c =
+    let args = c .before .before .before .before .args in
+    c .describe-refusal .ensures .0 ∙ describe-number (args .state) _ (length (now (args .staging))) (args .page) (args .offset) (length (now (args .bytes))) (c .before .checked .ensures .0)
+
 accepted-at : (c : tie.Else1)
-    → let args = c .before .before .before .before .args in describeRefusal (args .state) (length (now (args .staging))) (args .page) (args .offset) (length (now (args .bytes))) ≡ 0
-accepted-at c = sym (c .before .describe-refusal .ensures .0) ∙ c .if1 .left
+    → let args = c .before .before .before .before .before .args in describeRefusal (args .state) (length (now (args .staging))) (args .page) (args .offset) (length (now (args .bytes))) ≡ 0
+accepted-at c = sym (number-at (c .before)) ∙ c .if1 .left
 
 describable-at : (c : tie.Else1)
-    → let args = c .before .before .before .before .args in Describable (args .state) (length (now (args .staging))) (args .page) (args .offset) (length (now (args .bytes)))
-describable-at c = describable _ _ _ _ _ (groups-long (c .before .before .before .before)) (accepted-at c)
+    → let args = c .before .before .before .before .before .args in Describable (args .state) (length (now (args .staging))) (args .page) (args .offset) (length (now (args .bytes)))
+describable-at c = describable _ _ _ _ _ (groups-long (c .before .before .before .before .before)) (accepted-at c)
+
+queued-at : (c : tie.Else1) → c .before .before .checked .result .sums .queued ≡ total (groupsOf (c .before .before .before .before .before .args .state))
+queued-at c = c .before .before .checked .ensures .1 (describable-at c .sounds) .0 .queued
+
+checked-requires : tie.Need-checked-requires
+checked-requires c κs = search needs
 
 describe-refusal-requires : tie.Need-describe-refusal-requires
-describe-refusal-requires c κs = search needs
+describe-refusal-requires c κs = λ t. sound-of ((c .before .before .before) .args .state) (sym (c .checked .ensures .0) ∙ t) .frames .1
 
 refusal-of-requires : tie.Need-refusal-of-requires
 refusal-of-requires c κs = search needs
 
 returns : tie.Need-returns
 returns c =
-    let args = c .before .before .before .before .before .args in
-    describe-refused (c .refusal-of .result) (c .before .before .describe-refusal .result) (c .refusal-of .ensures) (c .before .if1 .taken) (args .state)
-    (updateOf (args .page) (args .offset) (now (args .bytes))) (now (args .staging)) (c .before .before .describe-refusal .ensures .0)
-
-queued-updates-requires : tie.Need-queued-updates-requires
-queued-updates-requires c κs = describable-at c .queued
+    let args = (c .before .before .before .before .before .before) .args in
+    describe-refused (c .refusal-of .result) ((c .before .before) .describe-refusal .result) (c .refusal-of .ensures) ((c .before) .if1 .taken) (args .state)
+    (updateOf (args .page) (args .offset) (now (args .bytes))) (now (args .staging)) (number-at (c .before .before))
 
 add-count : tie.Need-add-count
-add-count c = let k = describable-at (c .before .before) in omega (arith, c .before .queued-updates .ensures .0)
+add-count c = let k = describable-at (c .before .before .before) in omega (arith, queued-at (c .before .before .before))
 
 free-area-requires : tie.Need-free-area-requires
-free-area-requires c κs = let k = describable-at (c .before .before) in omega (arith, c .before .queued-updates .ensures .0)
+free-area-requires c κs = let k = describable-at (c .before .before .before .before) in omega (arith, queued-at (c .before .before .before .before))
 
 byte-requires : tie.Need-byte-requires
 byte-requires c κs = search needs
@@ -58,52 +69,50 @@ mul-start : tie.Need-mul-start
 mul-start c = search needs
 
 copy-part-requires : tie.Need-copy-part-requires
-copy-part-requires c κs = let k = describable-at (c .before .before .before .before .before) in omega (arith, c .before .byte .ensures, c .before .before .free-area .ensures .0)
+copy-part-requires c κs = let k = describable-at (c .before .before .before .before .before .before .before) in omega (arith, (c .before) .byte .ensures, (c .before .before) .free-area .ensures .0)
 
-cast-t20 : tie.Need-cast-t20
-cast-t20 c = let k = describable-at (c .before .before .before .before .before .before .before .before) in omega arith
+cast-t23 : tie.Need-cast-t23
+cast-t23 c = let k = describable-at (c .before .before .before .before .before .before .before .before .before .before) in omega arith
 
-cast-t21 : tie.Need-cast-t21
-cast-t21 c = let k = describable-at (c .before .before .before .before .before .before .before .before) in omega arith
+cast-t24 : tie.Need-cast-t24
+cast-t24 c = let k = describable-at (c .before .before .before .before .before .before .before .before .before .before) in omega arith
 
-cast-t22 : tie.Need-cast-t22
-cast-t22 c = let k = describable-at (c .before .before .before .before .before .before .before .before) in omega arith
+cast-t25 : tie.Need-cast-t25
+cast-t25 c = let k = describable-at (c .before .before .before .before .before .before .before .before .before .before) in omega arith
 
 added-requires : tie.Need-added-requires
-added-requires c κs = let k = describable-at (c .before .before .before .before .before .before .before .before) in let q = c .before .before .before .before .before .before .before .queued-updates .ensures .0 in (ap (λ (n : ℕ). n + c .before .before .before .before .before .before .before .before .before .before .before .before .args .state .described) q, omega arith)
+added-requires c κs = let k = describable-at (c .before .before .before .before .before .before .before .before .before .before) in let q = queued-at (c .before .before .before .before .before .before .before .before .before .before) in (ap (λ (n : ℕ). n + (c .before .before .before .before .before .before .before .before .before .before .before .before .before .before .before) .args .state .described) q, omega arith)
 
 same-length : tie.Need-same-length
 same-length c = search needs
 
 returns-2 : tie.Need-returns-2
 returns-2 c =
-    let start = c .before .before .before .before .before .before .before .before .before .before .before .before .before in
-    let args = start .args in
-    let queued = c .before .before .before .before .before .before .before .before .queued-updates in
-    let free = c .before .before .before .before .before .before .free-area in
-    let byte = c .before .before .before .before .before .byte in
-    let counted : total (groupsOf (args .state)) + args .state .described ≡ queued .result + args .state .described =
-    sym (ap (λ (n : ℕ). n + args .state .described) (queued .ensures .0)) in
+    let args = (c .before .before .before .before .before .before .before .before .before .before .before .before .before .before .before .before) .args in
+    let free = (c .before .before .before .before .before .before) .free-area in
+    let byte = (c .before .before .before .before .before) .byte in
+    let counted : total (groupsOf (args .state)) + args .state .described ≡ (c .before .before .before .before .before .before .before .before .before .before .before .before .before) .checked .result .sums .queued + args .state .described =
+    sym (ap (λ (n : ℕ). n + args .state .described) (queued-at (c .before .before .before .before .before .before .before .before .before .before .before))) in
     let unheld = ap (λ (n : ℕ). member (free .result) (areasOf (take n (args .state .staged)))) counted ∙ free .ensures .1 in
     describe-done (args .state) (args .page) (args .offset) (free .result) (byte .result) (now (args .bytes)) (now (args .staging)) _ (c .added .result)
-    (staged-long start) (accepted-at (c .before .before .before .before .before .before .before .before .before)) (free .ensures .0) unheld (c .added .ensures) (byte .ensures) (c .before .before .before .copy-part .ensures)
+    (staged-long (c .before .before .before .before .before .before .before .before .before .before .before .before .before .before .before .before)) (accepted-at (c .before .before .before .before .before .before .before .before .before .before .before)) (free .ensures .0) unheld (c .added .ensures) (byte .ensures) ((c .before .before .before) .copy-part .ensures)
 
 pub describe-spec : {M : Type 1} → statement M
 describe-spec =
     tie.close
     (tie.spec
+    checked-requires
     describe-refusal-requires
     refusal-of-requires
     returns
-    queued-updates-requires
     add-count
     free-area-requires
     byte-requires
     mul-start
     copy-part-requires
-    cast-t20
-    cast-t21
-    cast-t22
+    cast-t23
+    cast-t24
+    cast-t25
     added-requires
     same-length
     returns-2)
