@@ -15,11 +15,13 @@ use Rattle.promises.specs.declared.State.{State}
 use Rattle.promises.specs.declared.Staged.{Staged}
 use Rattle.promises.specs.Areas.{logLength, homeLength, framesLength, stagingLength}
 use Rattle.promises.specs.Contents.{groupsOf, total}
-use Rattle.promises.specs.Sums.{blockCount}
+use Rattle.promises.specs.Sums.{blockCount, firstGroups, groupStart, smallest}
 use Rattle.promises.specs.Sound.{sound, stagedOf, areasOf, allBelow, allLegal, sizesLegal, ofOldest}
 use Rattle.promises.specs.LogStep.{areasFit, logRefusal}
 use Rattle.promises.proofs.Soundness.{and-both, Sound, sound-of}
-use Rattle.promises.proofs.Changes.{pick-zero, pick-other}
+use Rattle.promises.proofs.Changes.{pick-zero, pick-other, held-is, smallest-le}
+use Rattle.soundness.specs.declared.sums.Sums.{Sums}
+use Rattle.soundness.specs.Summed.{Summed}
 use Rattle.queue.specs.Queue.{commitDone}
 use Rattle.queue.proofs.Leaving.{groups-left}
 use Rattle.logging.specs.Logging.{noStaged, sizeOf, stagedAt, Placed, Ready}
@@ -125,3 +127,10 @@ ready s log home frames staging e =
 pub ready-alone : (s : State) (log home frames staging : ℕ) → Ready s log home frames staging → Ready s log (homeLength (s .pages)) (framesLength (s .frames)) staging
 ready-alone s log home frames staging r =
     subst (λ (n : ℕ). Ready s log (homeLength (s .pages)) n staging) (r .framesLong) (subst (λ (n : ℕ). Ready s log n frames staging) (r .homeLong) r)
+
+-- keep-from is H below the next sequence
+pub held-within : (s : State) (sums : Sums) → Summed s sums → sums .held ≤ s .next
+held-within s sums h = omega (arith, h .held)
+
+pub kept-from : (s : State) (sums : Sums) → Summed s sums → s .next - sums .held ≡ smallest (groupStart s) (firstGroups (s .dirty))
+kept-from s sums h = omega (arith, h .held, held-is s, smallest-le (groupStart s) (firstGroups (s .dirty)))

@@ -5,6 +5,7 @@ use promises::LogOutcome;
 use promises::Logged;
 use promises::Refusal;
 use promises::State;
+use soundness::sums::Sums;
 use table::Table;
 ghost use mathlib.Core.Path.{_≡_};
 ghost use Prim.Native.Nat.{_+_, _-_, _<_};
@@ -13,6 +14,8 @@ ghost use Rattle.promises.specs.Answers.{refusalIn};
 ghost use Rattle.promises.specs.Blocks.{stored};
 ghost use Rattle.promises.specs.Contents.{waiting};
 ghost use Rattle.promises.specs.Sums.{groupStart};
+ghost use Rattle.promises.specs.Sound.{sound};
+ghost use Rattle.soundness.specs.Summed.{Summed};
 ghost use Rattle.promises.specs.LogStep.{logRefusal, logRefusalOf, LogSteps};
 ghost use Rattle.table.specs.Table.{Applies, AppliesAll};
 ghost use Rattle.promises.proofs.Changes.{updateDone};
@@ -33,11 +36,19 @@ fn wide_place(place: u16) -> usize
     place as usize
 }
 
-// Whether Log step is refused, and why: from the state and the lengths of the lent areas.
-pub fn log_refusal(state: State, log: usize, home: usize, frames: usize, staging: usize) -> Answer
+// Whether Log step is refused, and why: from whether the state is sound, the state and the lengths of the lent areas.
+pub fn log_refusal(
+    holds: bool,
+    state: State,
+    log: usize,
+    home: usize,
+    frames: usize,
+    staging: usize,
+) -> Answer
+    requires { ⌜ holds ≡ sound state ⌝ }
     ensures { λ r. ⌜ refusalIn r ≡ logRefusal state log home frames staging ⌝ }
 {
-    if !soundness::sound(state) {
+    if !holds {
         return Answer::Refused(Refusal::NotSound);
     }
     let fit = stepping::areas_fit(state, log, home, frames);
@@ -156,11 +167,12 @@ fn log_store(
     home: &[u8],
     frames: &mut [u8],
     staging: &[u8],
+    sums: Sums,
 ) -> LogOutcome
-    requires { ⌜ logRefusalOf state (now log) (now home) (now frames) (now staging) ≡ 0 ⌝ }
+    requires { ⌜ (logRefusalOf state (now log) (now home) (now frames) (now staging) ≡ 0) × Summed state sums ⌝ }
     ensures { λ r. ⌜ LogSteps state (now (log .entry)) (now (home .entry)) (now (frames .entry)) (now (staging .entry)) r (now (log .exit)) (now (frames .exit)) ⌝ }
 {
-    let keep_from = soundness::sums::oldest(state, state.next - state.stored as u64);
+    let keep_from = state.next - sums.held as u64;
     if state.stored < group_size(state) {
         return LogOutcome {
             state: store_update(state, log, staging, keep_from),
@@ -183,12 +195,21 @@ pub fn log_step(
 ) -> LogOutcome
     ensures { λ r. ⌜ LogSteps state (now (log .entry)) (now (home .entry)) (now (frames .entry)) (now (staging .entry)) r (now (log .exit)) (now (frames .exit)) ⌝ }
 {
-    let decision = log_refusal(state, log.len(), home.len(), frames.len(), staging.len());
+    let verdict = soundness::checked(state);
+    let sums = verdict.sums;
+    let decision = log_refusal(
+        verdict.sound,
+        state,
+        log.len(),
+        home.len(),
+        frames.len(),
+        staging.len(),
+    );
     match decision {
         Answer::Refused(refusal) => LogOutcome {
             state,
             answer: Logged::Refused(refusal),
         },
-        Answer::Done => log_store(state, log, home, frames, staging),
+        Answer::Done => log_store(state, log, home, frames, staging, sums),
     }
 }

@@ -13,44 +13,41 @@ use borrow.Author.Needs.{needs}
 use Rattle.logging.proofs.log_refusal.Statement.{statement}
 use Rattle.logging.proofs.log_refusal.Tie as tie
 
-sound-at : (c : tie.Else1) → true ≡ sound (c .before .before .args .state)
-sound-at c = sym (not-false _ (c .if1 .left)) ∙ c .before .sound .ensures
-
-sound-requires : tie.Need-sound-requires
-sound-requires c κs = search needs
+sound-at : (c : tie.Else1) → true ≡ sound (c .before .args .state)
+sound-at c = sym (not-false _ (c .if1 .left)) ∙ c .before .pre
 
 returns : tie.Need-returns
 returns c =
-    let a = (c .before .before) .args in
-    by-tests (a .state) (a .log) (a .home) (a .frames) (a .staging) false _ _ (sym (not-true _ (c .if1 .taken)) ∙ (c .before) .sound .ensures) refl refl
+    let a = (c .before) .args in
+    by-tests (a .state) (a .log) (a .home) (a .frames) (a .staging) false _ _ (sym (not-true _ (c .if1 .taken)) ∙ (c .before) .pre) refl refl
 
 areas-fit-requires : tie.Need-areas-fit-requires
 areas-fit-requires c κs =
-    let f : Sound ((c .before .before) .args .state) = sound-of _ (sym (sound-at c)) in
+    let f : Sound ((c .before) .args .state) = sound-of _ (sym (sound-at (c))) in
     (f .slots .1, f .pages .1, f .frames .1)
 
 mul-if2 : tie.Need-mul-if2
 mul-if2 c =
-    let f : Sound ((c .before .before .before .before) .args .state) = sound-of _ (sym (sound-at ((c .before .before)))) in
+    let f : Sound ((c .before .before .before) .args .state) = sound-of _ (sym (sound-at ((c .before .before)))) in
     let h = f .frames .1 in
     omega arith
 
 returns-2 : tie.Need-returns-2
 returns-2 c =
-    let a = (c .before .before .before .before .before) .args in
+    let a = (c .before .before .before .before) .args in
     by-tests (a .state) (a .log) (a .home) (a .frames) (a .staging) true false _ (sound-at ((c .before .before .before)))
     (sym (not-true _ (c .if2 .taken)) ∙ ap (λ (x : Bool). x && eqb (a .staging) (a .state .frames * 472)) ((c .before .before) .areas-fit .ensures)) refl
 
 returns-3 : tie.Need-returns-3
 returns-3 c =
-    let a = (c .before .before .before .before .before .before .before) .args in
+    let a = (c .before .before .before .before .before .before) .args in
     by-tests (a .state) (a .log) (a .home) (a .frames) (a .staging) true true true (sound-at ((c .before .before .before .before .before)))
     (sym (not-false _ ((c .before .before) .if2 .left)) ∙ ap (λ (x : Bool). x && eqb (a .staging) (a .state .frames * 472)) ((c .before .before .before .before) .areas-fit .ensures))
     (sym (eq-eqb _ _ (c .if3 .taken)))
 
 returns-4 : tie.Need-returns-4
 returns-4 c =
-    let a = (c .before .before .before .before .before .before .before) .args in
+    let a = (c .before .before .before .before .before .before) .args in
     by-tests (a .state) (a .log) (a .home) (a .frames) (a .staging) true true false (sound-at ((c .before .before .before .before .before)))
     (sym (not-false _ ((c .before .before) .if2 .left)) ∙ ap (λ (x : Bool). x && eqb (a .staging) (a .state .frames * 472)) ((c .before .before .before .before) .areas-fit .ensures))
     (sym (ne-eqb _ _ (c .if3 .left)))
@@ -58,4 +55,4 @@ returns-4 c =
 pub log-refusal-spec : {M : Type 1} → statement M
 log-refusal-spec =
     tie.close
-    (tie.spec sound-requires returns areas-fit-requires mul-if2 returns-2 returns-3 returns-4)
+    (tie.spec returns areas-fit-requires mul-if2 returns-2 returns-3 returns-4)
