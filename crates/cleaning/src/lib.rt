@@ -7,6 +7,7 @@ use promises::Dirty;
 use promises::Outcome;
 use promises::Refusal;
 use promises::State;
+use soundness::sums::Sums;
 ghost use mathlib.Core.Path.{_≡_};
 ghost use mathlib.Core.Bool.{true};
 ghost use Prim.Native.Nat.{ℕ, _+_, _*_, _^_, _≤_, _<_};
@@ -15,6 +16,7 @@ ghost use Rattle.promises.specs.Answers.{refusalIn};
 ghost use Rattle.promises.specs.Areas.{logLength, pageAt, firstHalf, secondHalf, withFirstHalf, withSecondHalf};
 ghost use Rattle.promises.specs.Sums.{dirtyCount};
 ghost use Rattle.promises.specs.Sound.{sound, member, dirtyNumbers};
+ghost use Rattle.soundness.specs.Summed.{Summed, Small};
 ghost use Rattle.promises.specs.CleanStep.{thirdRefusal, cleanRefusal, cleanRefusalOf, CleanSteps};
 ghost use Rattle.promises.specs.declared.Cleaning.the-variants.{Second, Third};
 ghost use Rattle.promises.proofs.Changes.{cleaningTo};
@@ -28,14 +30,13 @@ fn wide(page: u16) -> usize
 }
 
 // Why a clean block cannot be stored now: a half-stored group holds it back, or the sequences are used up.
-pub fn block_refusal(state: State) -> Answer
-    requires { ⌜ sound state ≡ true ⌝ }
+pub fn block_refusal(state: State, sums: Sums) -> Answer
+    requires { ⌜ (sound state ≡ true) × Summed state sums × Small state sums ⌝ }
     ensures { λ r. ⌜ refusalIn r ≡ thirdRefusal state (Third 0) ⌝ }
 {
     if state.stored != 0 {
         return Answer::Refused(Refusal::HeldBack);
     }
-    let sums = soundness::sums::sum_up(state);
     let owed = soundness::sums::owed(state);
     if state.next + sums.waiting as u64 + owed as u64 == soundness::SEQUENCE_END {
         return Answer::Refused(Refusal::SequencesUsedUp);
@@ -44,8 +45,8 @@ pub fn block_refusal(state: State) -> Answer
 }
 
 // Whether a third store is refused, and why.
-pub fn third_refusal(state: State) -> Answer
-    requires { ⌜ sound state ≡ true ⌝ }
+pub fn third_refusal(state: State, sums: Sums) -> Answer
+    requires { ⌜ (sound state ≡ true) × Summed state sums × Small state sums ⌝ }
     ensures { λ r. ⌜ refusalIn r ≡ thirdRefusal state (state .cleaning) ⌝ }
 {
     let cleaning = state.cleaning;
@@ -53,7 +54,7 @@ pub fn third_refusal(state: State) -> Answer
         Cleaning::Idle => Answer::Done,
         Cleaning::First(_) => Answer::Done,
         Cleaning::Second(_) => Answer::Done,
-        Cleaning::Third(_) => block_refusal(state),
+        Cleaning::Third(_) => block_refusal(state, sums),
     }
 }
 
@@ -61,16 +62,18 @@ pub fn third_refusal(state: State) -> Answer
 pub fn clean_refusal(state: State, log: usize, home: usize, frames: usize) -> Answer
     ensures { λ r. ⌜ refusalIn r ≡ cleanRefusal state log home frames ⌝ }
 {
-    if !soundness::sound(state) {
+    let verdict = soundness::checked(state);
+    let sums = verdict.sums;
+    if !verdict.sound {
         return Answer::Refused(Refusal::NotSound);
     }
     if !stepping::areas_fit(state, log, home, frames) {
         return Answer::Refused(Refusal::WrongLength);
     }
-    if soundness::sums::dirty_pages(state) == 0 {
+    if sums.dirty == 0 {
         return Answer::Refused(Refusal::NothingToDo);
     }
-    third_refusal(state)
+    third_refusal(state, sums)
 }
 
 // An entry's place in the order of cleaning: by first group, then by page; a free frame comes last.
@@ -89,13 +92,16 @@ pub fn first_frame(state: State) -> usize
     requires { ⌜ ((frame : ℕ) → entryAt state frame .first < 2 ^ 48) ⌝ }
     ensures { λ r. ⌜ (r < 32) × ((other : ℕ) → other < 32 → rankOf (entryAt state r) ≤ rankOf (entryAt state other)) ⌝ }
 {
+    let leader = state.dirty[0];
     let mut best = 0;
+    let mut least = rank(leader);
     let mut i = 1;
     while i < 32 {
         let entry = state.dirty[i];
-        let leader = state.dirty[best];
-        if rank(entry) < rank(leader) {
+        let own = rank(entry);
+        if own < least {
             best = i;
+            least = own;
         }
         i += 1;
     }

@@ -19,16 +19,16 @@ enum-told-4 : tie.Need-enum-told-4
 enum-told-4 c = search needs
 
 block-refusal-requires : tie.Need-block-refusal-requires
-block-refusal-requires c κs = search needs
+block-refusal-requires c κs = (c .before .before) .pre
 
 returns : tie.Need-returns
-returns c = search needs
+returns c = sym (ap (thirdRefusal ((c .before .before) .args .state)) (c .enum-told .given .1))
 
 returns-2 : tie.Need-returns-2
-returns-2 c = search needs
+returns-2 c = sym (ap (thirdRefusal ((c .before .before) .args .state)) (c .enum-told2 .given .1))
 
 returns-3 : tie.Need-returns-3
-returns-3 c = search needs
+returns-3 c = sym (ap (thirdRefusal ((c .before .before) .args .state)) (c .enum-told3 .given .1))
 
 returns-4 : tie.Need-returns-4
 returns-4 c = c .block-refusal .ensures ∙ sym (ap (thirdRefusal ((c .before .before .before) .args .state)) ((c .before) .enum-told4 .given .1))
