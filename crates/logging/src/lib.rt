@@ -1,22 +1,19 @@
 // Log step: one block of the oldest queued group is stored; at the commit its updates go to the frames and the group leaves the queue.
 use block::Block;
-use promises::Answer;
 use promises::LogOutcome;
 use promises::Logged;
 use promises::Refusal;
 use promises::State;
-use soundness::sums::Sums;
 use table::Table;
 ghost use mathlib.Core.Path.{_≡_};
 ghost use Prim.Native.Nat.{_+_, _-_, _<_};
 ghost use lib.ListN.{length};
-ghost use Rattle.promises.specs.Answers.{refusalIn};
+ghost use Rattle.promises.specs.Answers.{numberOf};
 ghost use Rattle.promises.specs.Blocks.{stored};
 ghost use Rattle.promises.specs.Contents.{waiting};
 ghost use Rattle.promises.specs.Sums.{groupStart};
 ghost use Rattle.promises.specs.Sound.{sound};
-ghost use Rattle.soundness.specs.Summed.{Summed};
-ghost use Rattle.promises.specs.LogStep.{logRefusal, logRefusalOf, LogSteps};
+ghost use Rattle.promises.specs.LogStep.{logRefusal, LogSteps};
 ghost use Rattle.table.specs.Table.{Applies, AppliesAll};
 ghost use Rattle.promises.proofs.Changes.{updateDone};
 ghost use Rattle.logging.specs.Logging.{sizeOf, stagedAt, oldestGroup, Ready, updateAt, Commits};
@@ -36,7 +33,8 @@ fn wide_place(place: u16) -> usize
     place as usize
 }
 
-// Whether Log step is refused, and why: from whether the state is sound, the state and the lengths of the lent areas.
+// What Log step is refused with, by the paper's number, 0 where it is accepted: from whether the state is sound, the state and the lengths of
+// the lent areas.
 pub fn log_refusal(
     holds: bool,
     state: State,
@@ -44,21 +42,35 @@ pub fn log_refusal(
     home: usize,
     frames: usize,
     staging: usize,
-) -> Answer
+) -> u64
     requires { ⌜ holds ≡ sound state ⌝ }
-    ensures { λ r. ⌜ refusalIn r ≡ logRefusal state log home frames staging ⌝ }
+    ensures { λ r. ⌜ (r ≡ logRefusal state log home frames staging) × ((r ≡ 0 → ⊥) → (r ≡ 1 → ⊥) → (r ≡ 2 → ⊥) → r ≡ 10) ⌝ }
 {
     if !holds {
-        return Answer::Refused(Refusal::NotSound);
+        return 2;
     }
     let fit = stepping::areas_fit(state, log, home, frames);
     if !(fit & (staging == state.frames * Block::NEW_BYTES)) {
-        return Answer::Refused(Refusal::WrongLength);
+        return 1;
     }
     if state.queued == 0 {
-        return Answer::Refused(Refusal::NothingToDo);
+        return 10;
     }
-    Answer::Done
+    0
+}
+
+// The refusal with one of these numbers.
+fn refusal_of(number: u64) -> Refusal
+    requires { ⌜ ((number ≡ 1 → ⊥) → (number ≡ 2 → ⊥) → number ≡ 10) ⌝ }
+    ensures { λ r. ⌜ numberOf r ≡ number ⌝ }
+{
+    if number == 1 {
+        return Refusal::WrongLength;
+    }
+    if number == 2 {
+        return Refusal::NotSound;
+    }
+    Refusal::NothingToDo
 }
 
 // How many updates the oldest queued group has.
@@ -160,32 +172,7 @@ pub fn store_commit(
     queue::committed(state, dirty, size)
 }
 
-// The one store of an accepted Log step: the next update of the oldest group, or else its commit.
-fn log_store(
-    state: State,
-    log: &mut [u8],
-    home: &[u8],
-    frames: &mut [u8],
-    staging: &[u8],
-    sums: Sums,
-) -> LogOutcome
-    requires { ⌜ (logRefusalOf state (now log) (now home) (now frames) (now staging) ≡ 0) × Summed state sums ⌝ }
-    ensures { λ r. ⌜ LogSteps state (now (log .entry)) (now (home .entry)) (now (frames .entry)) (now (staging .entry)) r (now (log .exit)) (now (frames .exit)) ⌝ }
-{
-    let keep_from = state.next - sums.held as u64;
-    if state.stored < group_size(state) {
-        return LogOutcome {
-            state: store_update(state, log, staging, keep_from),
-            answer: Logged::Stored,
-        };
-    }
-    LogOutcome {
-        state: store_commit(state, log, home, frames, staging, keep_from),
-        answer: Logged::Settled(state.ticket + 1),
-    }
-}
-
-// Log step.
+// Log step: the next update of the oldest group is stored, or else its commit.
 pub fn log_step(
     state: State,
     log: &mut [u8],
@@ -197,7 +184,7 @@ pub fn log_step(
 {
     let verdict = soundness::checked(state);
     let sums = verdict.sums;
-    let decision = log_refusal(
+    let number = log_refusal(
         verdict.sound,
         state,
         log.len(),
@@ -205,11 +192,24 @@ pub fn log_step(
         frames.len(),
         staging.len(),
     );
-    match decision {
-        Answer::Refused(refusal) => LogOutcome {
+    if number != 0 {
+        let refusal = refusal_of(number);
+        return LogOutcome {
             state,
             answer: Logged::Refused(refusal),
-        },
-        Answer::Done => log_store(state, log, home, frames, staging, sums),
+        };
+    }
+    let keep_from = state.next - sums.held as u64;
+    if state.stored < group_size(state) {
+        let after = store_update(state, log, staging, keep_from);
+        return LogOutcome {
+            state: after,
+            answer: Logged::Stored,
+        };
+    }
+    let after = store_commit(state, log, home, frames, staging, keep_from);
+    LogOutcome {
+        state: after,
+        answer: Logged::Settled(state.ticket + 1),
     }
 }

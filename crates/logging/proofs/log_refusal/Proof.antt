@@ -18,8 +18,10 @@ sound-at c = sym (not-false _ (c .if1 .left)) ∙ c .before .pre
 
 returns : tie.Need-returns
 returns c =
-    let a = (c .before) .args in
-    by-tests (a .state) (a .log) (a .home) (a .frames) (a .staging) false _ _ (sym (not-true _ (c .if1 .taken)) ∙ (c .before) .pre) refl refl
+    let a = (c .before) .args in (
+      by-tests (a .state) (a .log) (a .home) (a .frames) (a .staging) false _ _ (sym (not-true _ (c .if1 .taken)) ∙ (c .before) .pre) refl refl,
+      λ z one two. absurd (two refl),
+    )
 
 areas-fit-requires : tie.Need-areas-fit-requires
 areas-fit-requires c κs =
@@ -34,23 +36,29 @@ mul-if2 c =
 
 returns-2 : tie.Need-returns-2
 returns-2 c =
-    let a = (c .before .before .before .before) .args in
-    by-tests (a .state) (a .log) (a .home) (a .frames) (a .staging) true false _ (sound-at ((c .before .before .before)))
-    (sym (not-true _ (c .if2 .taken)) ∙ ap (λ (x : Bool). x && eqb (a .staging) (a .state .frames * 472)) ((c .before .before) .areas-fit .ensures)) refl
+    let a = (c .before .before .before .before) .args in (
+      by-tests (a .state) (a .log) (a .home) (a .frames) (a .staging) true false _ (sound-at ((c .before .before .before)))
+          (sym (not-true _ (c .if2 .taken)) ∙ ap (λ (x : Bool). x && eqb (a .staging) (a .state .frames * 472)) ((c .before .before) .areas-fit .ensures)) refl,
+      λ z one two. absurd (one refl),
+    )
 
 returns-3 : tie.Need-returns-3
 returns-3 c =
-    let a = (c .before .before .before .before .before .before) .args in
-    by-tests (a .state) (a .log) (a .home) (a .frames) (a .staging) true true true (sound-at ((c .before .before .before .before .before)))
-    (sym (not-false _ ((c .before .before) .if2 .left)) ∙ ap (λ (x : Bool). x && eqb (a .staging) (a .state .frames * 472)) ((c .before .before .before .before) .areas-fit .ensures))
-    (sym (eq-eqb _ _ (c .if3 .taken)))
+    let a = (c .before .before .before .before .before .before) .args in (
+      by-tests (a .state) (a .log) (a .home) (a .frames) (a .staging) true true true (sound-at ((c .before .before .before .before .before)))
+          (sym (not-false _ ((c .before .before) .if2 .left)) ∙ ap (λ (x : Bool). x && eqb (a .staging) (a .state .frames * 472)) ((c .before .before .before .before) .areas-fit .ensures))
+          (sym (eq-eqb _ _ (c .if3 .taken))),
+      λ z one two. refl,
+    )
 
 returns-4 : tie.Need-returns-4
 returns-4 c =
-    let a = (c .before .before .before .before .before .before) .args in
-    by-tests (a .state) (a .log) (a .home) (a .frames) (a .staging) true true false (sound-at ((c .before .before .before .before .before)))
-    (sym (not-false _ ((c .before .before) .if2 .left)) ∙ ap (λ (x : Bool). x && eqb (a .staging) (a .state .frames * 472)) ((c .before .before .before .before) .areas-fit .ensures))
-    (sym (ne-eqb _ _ (c .if3 .left)))
+    let a = (c .before .before .before .before .before .before) .args in (
+      by-tests (a .state) (a .log) (a .home) (a .frames) (a .staging) true true false (sound-at ((c .before .before .before .before .before)))
+          (sym (not-false _ ((c .before .before) .if2 .left)) ∙ ap (λ (x : Bool). x && eqb (a .staging) (a .state .frames * 472)) ((c .before .before .before .before) .areas-fit .ensures))
+          (sym (ne-eqb _ _ (c .if3 .left))),
+      λ z one two. absurd (z refl),
+    )
 
 pub log-refusal-spec : {M : Type 1} → statement M
 log-refusal-spec =
