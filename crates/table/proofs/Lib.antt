@@ -4,3 +4,4 @@ pub mod Entries
 pub mod FrameBytes
 pub mod Holding
 pub mod Applying
+pub mod Seating

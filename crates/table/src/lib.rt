@@ -1,5 +1,8 @@
 // The dirty pages in their frames: a committed update put into its page's frame, and a page dropped once its clean block is in the
-// log. Open and Log step share it. It knows home and frames as lent bytes, and nothing of the log.
+// log. By value for Log step and Clean step; Open's walk has them in place: see seats. It knows home and frames as lent bytes, and
+// nothing of the log.
+pub mod seats;
+
 use block::Block;
 use promises::Dirty;
 ghost use mathlib.Core.Path.{_≡_};
