@@ -9,9 +9,8 @@ use borrow.Author.Tests.{eq-eqb, ne-eqb, eqb-true, eqb-false, not-true, not-fals
 use Rattle.block.proofs.Tests.{never-both}
 use Rattle.table.specs.declared.Table.{Table}
 use Rattle.table.specs.Table.{AppliesAll, Drops}
-use Rattle.recovery.specs.declared.Walk.{Walk}
 use Rattle.recovery.specs.Log.{updatesFrom}
-use Rattle.recovery.specs.Walking.{refusedAt, halfAt, closedWith, updateFits, commitFits, updated, Cleans, Commits, spanFits, tested}
+use Rattle.recovery.specs.Walking.{Walk, refusedAt, halfAt, closedWith, updateFits, commitFits, updated, Cleans, Commits, spanFits, tested}
 
 -- a test that the code negates
 pub fails : (t test : Bool) → t ≡ test → not t ≡ true → test ≡ false
@@ -65,13 +64,6 @@ commits-as log home walk frames s updates ticket ticket′ r frames′ e x =
 
 pub cleans-as : (walk : Walk) (s page ticket ticket′ : ℕ) (r : Walk) → ticket ≡ ticket′ → Cleans walk s page ticket r → Cleans walk s page ticket′ r
 cleans-as walk s page ticket ticket′ r e x = subst (λ (t : ℕ). Cleans walk s page t r) e x
-
--- by whether a page found no frame
-pub by-full : (b : Bool) (x y r : Walk) → b ≡ true → r ≡ x → r ≡ cond b x y
-by-full b x y r e f = f ∙ ap (λ (c : Bool). cond c x y) (sym e)
-
-pub by-room : (b : Bool) (x y r : Walk) → b ≡ false → r ≡ y → r ≡ cond b x y
-by-room b x y r e f = f ∙ ap (λ (c : Bool). cond c x y) (sym e)
 
 -- ---- the last test
 

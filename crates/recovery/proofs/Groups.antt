@@ -1,14 +1,20 @@
 -- The updates of a group, read from their slots.
 -- Assumes nothing.
 use mathlib.Core.Path.{_≡_, refl, sym, ap, _∙_, subst}
+use mathlib.Core.Bool.{Bool, true, false, not, _&&_}
 use mathlib.Core.List.{List, [], _∷_, _++_}
 use Prim.Native.Nat.{ℕ, zero, suc, _+_, _-_, _≤_, _<_}
 use native.Mathlib.Omega.{arith}
+use lib.Dec.{ltb}
 use lib.ListN.{length}
+use borrow.Author.Tests.{ltb-true, ltb-false}
+use Rattle.block.proofs.Tests.{never-both}
 use Rattle.block.specs.declared.Kind.{Kind}
 use Rattle.promises.specs.Updates.{Update}
+use Rattle.promises.proofs.Soundness.{and-both}
 use Rattle.table.specs.declared.Table.{Table}
 use Rattle.table.specs.Table.{Applies, AppliesAll}
+use Rattle.table.specs.Seats.{seated}
 use Rattle.table.proofs.Applying.{applies-none, applies-more}
 use Rattle.recovery.specs.Log.{bytesOf, headerOf, updateOf, updatesFrom, changeIn}
 
@@ -80,3 +86,33 @@ pub left-none : (log : List ℕ) (table : Table) (home frames : List ℕ) (start
 left-none log table home frames start count i t frames₁ h f =
     f t frames₁
     (subst (λ (us : List Update). AppliesAll t home frames₁ us start t frames₁) (sym (group-end log start i count h)) (applies-none t home frames₁ start))
+
+-- ---- the same with seats, as long as every page finds a frame
+
+pub goes-on : (fits : Bool) (i count : ℕ) → (fits && ltb i count) ≡ true → (fits ≡ true) × (i < count)
+goes-on fits i count e = let b = and-both fits (ltb i count) e in (b .0, ltb-true i count (b .1))
+
+pub left-seats : (log : List ℕ) (table : Table) (home frames : List ℕ) (start count i : ℕ) (fits : Bool) (seats : List ℕ) (t₁ : Table) (frames₁ frames₂ : List ℕ)
+    → (fits && ltb i count) ≡ true
+    → LeftTo table home frames (updatesFrom log start count) start (seated (not fits) seats) frames₁ (updatesFrom log (start + i) (count - i))
+    → Applies (seated false seats) home frames₁ (updateOf log (start + i)) start t₁ frames₂
+    → LeftTo table home frames (updatesFrom log start count) start t₁ frames₂ (updatesFrom log (start + (i + 1)) (count - (i + 1)))
+left-seats log table home frames start count i fits seats t₁ frames₁ frames₂ e f a =
+    let g = goes-on fits i count e in
+    left-next log table home frames start count i (seated (not fits) seats) t₁ frames₁ frames₂ (g .1) f
+    (subst (λ (b : Bool). Applies (seated (not b) seats) home frames₁ (updateOf log (start + i)) start t₁ frames₂) (sym (g .0)) a)
+
+-- all are applied, or a page found no frame: nothing happens any more
+pub left-ends : (log : List ℕ) (table : Table) (home frames : List ℕ) (start count i : ℕ) (fits : Bool) (seats frames₁ : List ℕ) → (fits && ltb i count) ≡ false
+    → LeftTo table home frames (updatesFrom log start count) start (seated (not fits) seats) frames₁ (updatesFrom log (start + i) (count - i))
+    → AppliesAll table home frames (updatesFrom log start count) start (seated (not fits) seats) frames₁
+left-ends log table home frames start count i true seats frames₁ e f =
+    left-none log table home frames start count i (seated false seats) frames₁ (ltb-false i count e) f
+left-ends log table home frames start count i false seats frames₁ e f =
+    f (seated true seats) frames₁ record {
+      countIs = refl;
+      framesLong = refl;
+      stays = λ q. (refl, refl);
+      fits = λ es q h l. absurd (never-both true refl q);
+      fills = λ es q h l. refl;
+    }

@@ -10,9 +10,8 @@ use Rattle.block.proofs.Tests.{by-cases}
 use Rattle.promises.specs.Areas.{pageAt}
 use Rattle.promises.specs.Blocks.{LogBlock}
 use Rattle.promises.specs.Walk.{Walk as PaperWalk, walkBlock, inOrder, framed, Finding, stops, walkFrom}
-use Rattle.recovery.specs.declared.Walk.{Walk}
 use Rattle.recovery.specs.Log.{blockOf, blocksFrom}
-use Rattle.recovery.specs.Walking.{Stands, Refused, Turns, Leads}
+use Rattle.recovery.specs.Walking.{Walk, Stands, Refused, Turns, Leads}
 
 -- ---- the paper's walk over one block more
 

@@ -21,9 +21,8 @@ use Rattle.promises.proofs.Soundness.{and-both}
 use Rattle.table.specs.declared.Table.{Table}
 use Rattle.table.specs.Table.{Each, AppliesAll, Drops}
 use Rattle.table.proofs.Holding.{each-apply, each-without}
-use Rattle.recovery.specs.declared.Walk.{Walk}
 use Rattle.recovery.specs.Log.{bytesOf, headerOf, blockOf, changeIn, updateOf, updatesFrom, Placed, Legal}
-use Rattle.recovery.specs.Walking.{refusedAt, halfAt, closedWith, updateFits, commitFits, updated, Cleans, Commits, Ready, Early, Stands, Refused, Turns}
+use Rattle.recovery.specs.Walking.{Walk, refusedAt, halfAt, closedWith, updateFits, commitFits, updated, Cleans, Commits, Ready, Early, Stands, Refused, Turns}
 use Rattle.recovery.proofs.Groups.{update-is, group-more, group-length}
 use Rattle.recovery.proofs.Changing.{updated-wrong, updated-first, updated-next}
 

@@ -12,8 +12,43 @@ use Rattle.promises.specs.Sums.{firstGroups, smallest}
 use Rattle.promises.specs.Walk.{Walk as PaperWalk, walkBlock, inOrder, framed, Finding, stops, walkFrom}
 use Rattle.table.specs.declared.Table.{Table}
 use Rattle.table.specs.Table.{Holds, Each, AppliesAll, Drops}
-use Rattle.recovery.specs.declared.Walk.{Walk}
+use Rattle.table.specs.Seats.{seated}
+use Rattle.recovery.specs.declared.Stage.{Stage}
 use Rattle.recovery.specs.Log.{headerOf, updatesFrom, blocksFrom, Placed}
+
+-- ---- where the code's walk stands
+
+-- the number of its refusal, 0 for none, and the place; the last committed ticket; a half group's first block and how many updates it
+-- has, 0 and 0 for none; the dirty pages
+pub record Walk : Type 0 where
+  pub refusal : ℕ
+  pub place : ℕ
+  pub ticket : ℕ
+  pub start : ℕ
+  pub count : ℕ
+  pub table : Table
+
+-- a stage with its seats: a page found no frame where the refusal is 9
+abbrev pub walkOf : Stage → List ℕ → Walk
+walkOf stage seats = record {
+  refusal = stage .refusal;
+  place = stage .place;
+  ticket = stage .ticket;
+  start = stage .start;
+  count = stage .count;
+  table = seated (eqb (stage .refusal) 9) seats;
+}
+
+-- refused at a place; with a half group of so many updates; without a half group, with this ticket
+abbrev pub stageRefused : Stage → ℕ → ℕ → Stage
+stageRefused stage refusal place =
+    record { refusal = refusal; place = place; ticket = stage .ticket; start = stage .start; count = stage .count }
+
+abbrev pub stageHalf : Stage → ℕ → ℕ → Stage
+stageHalf stage start count = record { refusal = stage .refusal; place = stage .place; ticket = stage .ticket; start = start; count = count }
+
+abbrev pub stageClosed : Stage → ℕ → Stage
+stageClosed stage ticket = record { refusal = stage .refusal; place = stage .place; ticket = ticket; start = 0; count = 0 }
 
 -- ---- the code's turns
 

@@ -3,21 +3,23 @@
 use block::Block;
 use block::Judged;
 use block::Kind;
-use table::Table;
 ghost use mathlib.Core.Path.{_≡_};
-ghost use mathlib.Core.Bool.{true, false, _&&_, _||_};
+ghost use mathlib.Core.List.{List};
+ghost use mathlib.Core.Bool.{true, false, not, _&&_, _||_};
 ghost use Prim.Native.Nat.{ℕ, suc, _+_, _-_, _*_, _^_, _≤_, _<_, max};
 ghost use lib.ListN.{length};
 ghost use lib.Dec.{eqb, ltb, leb};
 ghost use Rattle.block.specs.Sizes.{blockSize, pageSize, sequenceEnd};
 ghost use Rattle.promises.specs.Areas.{pagesIn};
 ghost use Rattle.table.specs.Table.{Applies, AppliesAll};
+ghost use Rattle.table.specs.Seats.{seated};
 ghost use Rattle.recovery.specs.Log.{bytesOf, headerOf, blockOf, updateOf, updatesFrom, Placed, Legal};
 ghost use Rattle.recovery.specs.Slots.{sequenceOf, isEmpty, Scanned, Lowest};
 ghost use Rattle.recovery.specs.Walking.{
-  refusedAt,
-  halfAt,
-  closedWith,
+  walkOf,
+  stageRefused,
+  stageHalf,
+  stageClosed,
   updateFits,
   commitFits,
   updated,
@@ -36,15 +38,14 @@ pub struct Scan {
     pub unused: bool,
 }
 
-// A walk: the number of its refusal, 0 for none, and the place; the last committed ticket; a half group's first block and how many
-// updates it has, 0 and 0 for none; the dirty pages.
-pub struct Walk {
+// Where a walk stands: the number of its refusal, 0 for none, and the place; the last committed ticket; a half group's first block and
+// how many updates it has, 0 and 0 for none. The dirty pages are in the seats.
+pub struct Stage {
     pub refusal: u64,
     pub place: u64,
     pub ticket: u64,
     pub start: u64,
     pub count: usize,
-    pub table: Table,
 }
 
 // The sequence of a valid slot, else 0.
@@ -132,17 +133,17 @@ pub fn header(log: &[u8], s: u64) -> Block
     block::header(slot_of(log, s))
 }
 
-// The stored update of a sequence goes to its page's frame.
+// The stored update of a sequence goes to its page's frame. False: there is no frame for the page, and nothing changes.
 fn apply_stored(
-    table: Table,
+    seats: &mut [u64],
     log: &[u8],
     home: &[u8],
     frames: &mut [u8],
     s: u64,
     group: u64,
-) -> Table
-    requires { ⌜ (table .count ≤ 32) × (length (now frames) ≡ table .count * pageSize) × (blockSize ≤ length (now log)) × (pagesIn (length (now home)) ≤ 4096) × (1 ≤ group) × Placed (pagesIn (length (now home))) (headerOf (now log) s .kind) ⌝ }
-    ensures { λ r. ⌜ Applies table (now (home .entry)) (now (frames .entry)) (updateOf (now (log .entry)) s) group r (now (frames .exit)) ⌝ }
+) -> bool
+    requires { ⌜ (length (now seats) ≤ 32) × (length (now frames) ≡ length (now seats) * pageSize) × (blockSize ≤ length (now log)) × (pagesIn (length (now home)) ≤ 4096) × (1 ≤ group) × (group < sequenceEnd) × Placed (pagesIn (length (now home))) (headerOf (now log) s .kind) ⌝ }
+    ensures { λ r. ⌜ Applies (seated false (now (seats .entry))) (now (home .entry)) (now (frames .entry)) (updateOf (now (log .entry)) s) group (seated (not r) (now (seats .exit))) (now (frames .exit)) ⌝ }
 {
     let slot = slot_of(log, s);
     let block = block::header(slot);
@@ -155,141 +156,146 @@ fn apply_stored(
             length,
         } => {
             let bytes = block::new_bytes(slot, length);
-            table::apply(table, home, frames, page, offset, bytes, group)
+            table::seats::apply(seats, home, frames, page, offset, bytes, group)
         }
-        Kind::Commit { updates } => table,
-        Kind::Clean { page } => table,
+        Kind::Commit { updates } => true,
+        Kind::Clean { page } => true,
     }
 }
 
-// The group of so many updates that starts at a sequence takes effect.
+// The group of so many updates that starts at a sequence takes effect. False: a page found no frame, and the rest is left out.
 fn apply_group(
-    table: Table,
+    seats: &mut [u64],
     log: &[u8],
     home: &[u8],
     frames: &mut [u8],
     start: u64,
     count: usize,
-) -> Table
-    requires { ⌜ (table .count ≤ 32) × (length (now frames) ≡ table .count * pageSize) × (blockSize ≤ length (now log)) × (pagesIn (length (now home)) ≤ 4096) × (1 ≤ start) × (start + count ≤ sequenceEnd) × ((i : ℕ) → i < count → Placed (pagesIn (length (now home))) (headerOf (now log) (start + i) .kind)) ⌝ }
-    ensures { λ r. ⌜ AppliesAll table (now (home .entry)) (now (frames .entry)) (updatesFrom (now (log .entry)) start count) start r (now (frames .exit)) ⌝ }
+) -> bool
+    requires { ⌜ (length (now seats) ≤ 32) × (length (now frames) ≡ length (now seats) * pageSize) × (blockSize ≤ length (now log)) × (pagesIn (length (now home)) ≤ 4096) × (1 ≤ start) × (start + count ≤ sequenceEnd) × ((i : ℕ) → i < count → Placed (pagesIn (length (now home))) (headerOf (now log) (start + i) .kind)) ⌝ }
+    ensures { λ r. ⌜ AppliesAll (seated false (now (seats .entry))) (now (home .entry)) (now (frames .entry)) (updatesFrom (now (log .entry)) start count) start (seated (not r) (now (seats .exit))) (now (frames .exit)) ⌝ }
 {
-    let mut t = table;
+    let mut fits = true;
     let mut i = 0;
-    while i < count {
-        t = apply_stored(t, log, home, frames, start + i as u64, start);
+    while fits & (i < count) {
+        fits = apply_stored(seats, log, home, frames, start + i as u64, start);
         i += 1;
     }
-    t
+    fits
 }
 
 // The walk refused, at a place.
-fn refused(walk: Walk, refusal: u64, place: u64) -> Walk
-    ensures { λ r. ⌜ r ≡ refusedAt walk refusal place ⌝ }
+fn refused(stage: Stage, refusal: u64, place: u64) -> Stage
+    ensures { λ r. ⌜ r ≡ stageRefused stage refusal place ⌝ }
 {
-    let mut w = walk;
+    let mut w = stage;
     w.refusal = refusal;
     w.place = place;
     w
 }
 
 // The walk with a half group of so many updates.
-fn half(walk: Walk, start: u64, count: usize) -> Walk
-    ensures { λ r. ⌜ r ≡ halfAt walk start count ⌝ }
+fn half(stage: Stage, start: u64, count: usize) -> Stage
+    ensures { λ r. ⌜ r ≡ stageHalf stage start count ⌝ }
 {
-    let mut w = walk;
+    let mut w = stage;
     w.start = start;
     w.count = count;
     w
 }
 
-// The walk without a half group, with this ticket and these dirty pages.
-fn closed(walk: Walk, ticket: u64, table: Table) -> Walk
-    ensures { λ r. ⌜ r ≡ closedWith walk ticket table ⌝ }
+// The walk without a half group, with this ticket.
+fn closed(stage: Stage, ticket: u64) -> Stage
+    ensures { λ r. ⌜ r ≡ stageClosed stage ticket ⌝ }
 {
-    let mut w = walk;
+    let mut w = stage;
     w.ticket = ticket;
     w.start = 0;
     w.count = 0;
-    w.table = table;
     w
 }
 
 // Whether an update's index is 1 or the next of the half group, and its ticket right.
-fn update_fits(walk: Walk, index: usize, ticket: u64) -> bool
-    requires { ⌜ walk .count < sequenceEnd ⌝ }
-    ensures { λ r. ⌜ r ≡ updateFits walk index ticket ⌝ }
+fn update_fits(stage: Stage, index: usize, ticket: u64) -> bool
+    requires { ⌜ stage .count < sequenceEnd ⌝ }
+    ensures { λ r. ⌜ ((seats : List ℕ) → r ≡ updateFits (walkOf stage seats) index ticket) ⌝ }
 {
-    ((index == 1) | ((0 < walk.count) & (index == walk.count + 1))) & (ticket == walk.ticket)
+    ((index == 1) | ((0 < stage.count) & (index == stage.count + 1))) & (ticket == stage.ticket)
 }
 
 // Whether a commit closes its group, and its ticket is right.
-fn commit_fits(walk: Walk, updates: usize, ticket: u64) -> bool
-    requires { ⌜ walk .ticket < sequenceEnd ⌝ }
-    ensures { λ r. ⌜ r ≡ commitFits walk updates ticket ⌝ }
+fn commit_fits(stage: Stage, updates: usize, ticket: u64) -> bool
+    requires { ⌜ stage .ticket < sequenceEnd ⌝ }
+    ensures { λ r. ⌜ ((seats : List ℕ) → r ≡ commitFits (walkOf stage seats) updates ticket) ⌝ }
 {
-    (0 < walk.count) & (updates == walk.count) & (ticket == walk.ticket + 1)
+    (0 < stage.count) & (updates == stage.count) & (ticket == stage.ticket + 1)
 }
 
 // An update is walked over: a new index 1 voids a half group.
-fn walk_update(walk: Walk, sequence: u64, index: usize, ticket: u64) -> Walk
-    requires { ⌜ walk .count < sequenceEnd ⌝ }
-    ensures { λ r. ⌜ r ≡ updated walk sequence index ticket ⌝ }
+fn walk_update(stage: Stage, sequence: u64, index: usize, ticket: u64) -> Stage
+    requires { ⌜ (stage .count < sequenceEnd) × (stage .refusal ≡ 0) ⌝ }
+    ensures { λ r. ⌜ ((seats : List ℕ) → walkOf r seats ≡ updated (walkOf stage seats) sequence index ticket) ⌝ }
 {
-    if !update_fits(walk, index, ticket) {
-        return refused(walk, 8, sequence);
+    if !update_fits(stage, index, ticket) {
+        return refused(stage, 8, sequence);
     }
     if index == 1 {
-        return half(walk, sequence, 1);
+        return half(stage, sequence, 1);
     }
-    half(walk, walk.start, index)
+    half(stage, stage.start, index)
 }
 
 // A clean is walked over: it voids a half group, and its page is dropped.
-fn walk_clean(walk: Walk, s: u64, page: usize, ticket: u64) -> Walk
-    requires { ⌜ walk .table .count ≤ 32 ⌝ }
-    ensures { λ r. ⌜ Cleans walk s page ticket r ⌝ }
+fn walk_clean(stage: Stage, seats: &mut [u64], s: u64, page: usize, ticket: u64) -> Stage
+    requires { ⌜ (length (now seats) ≤ 32) × (stage .refusal ≡ 0) ⌝ }
+    ensures { λ r. ⌜ Cleans (walkOf stage (now (seats .entry))) s page ticket (walkOf r (now (seats .exit))) ⌝ }
 {
-    if ticket != walk.ticket {
-        return refused(walk, 8, s);
+    if ticket != stage.ticket {
+        return refused(stage, 8, s);
     }
-    let table = walk.table;
-    let left = table::drop_page(table, page);
-    closed(walk, walk.ticket, left)
+    table::seats::drop_page(seats, page);
+    closed(stage, stage.ticket)
 }
 
 // A commit is walked over: its group takes effect.
 fn walk_commit(
-    walk: Walk,
+    stage: Stage,
+    seats: &mut [u64],
     log: &[u8],
     home: &[u8],
     frames: &mut [u8],
     s: u64,
     updates: usize,
     ticket: u64,
-) -> Walk
-    requires { ⌜ (walk .table .count ≤ 32) × (length (now frames) ≡ walk .table .count * pageSize) × (blockSize ≤ length (now log)) × (pagesIn (length (now home)) ≤ 4096) × (s < sequenceEnd) × Ready (now log) (now home) s walk ⌝ }
-    ensures { λ r. ⌜ Commits (now (log .entry)) (now (home .entry)) walk (now (frames .entry)) s updates ticket r (now (frames .exit)) ⌝ }
+) -> Stage
+    requires { ⌜ (length (now seats) ≤ 32) × (length (now frames) ≡ length (now seats) * pageSize) × (blockSize ≤ length (now log)) × (pagesIn (length (now home)) ≤ 4096) × (s < sequenceEnd) × (stage .refusal ≡ 0) × Ready (now log) (now home) s (walkOf stage (now seats)) ⌝ }
+    ensures { λ r. ⌜ Commits (now (log .entry)) (now (home .entry)) (walkOf stage (now (seats .entry))) (now (frames .entry)) s updates ticket (walkOf r (now (seats .exit))) (now (frames .exit)) ⌝ }
 {
-    if !commit_fits(walk, updates, ticket) {
-        return refused(walk, 8, s);
+    if !commit_fits(stage, updates, ticket) {
+        return refused(stage, 8, s);
     }
-    let table = walk.table;
-    let applied = apply_group(table, log, home, frames, walk.start, walk.count);
-    let w = closed(walk, ticket, applied);
-    if applied.full {
+    let fits = apply_group(seats, log, home, frames, stage.start, stage.count);
+    let w = closed(stage, ticket);
+    if !fits {
         return refused(w, 9, s);
     }
     w
 }
 
 // The block of a sequence is walked over. Nothing happens once refused.
-fn turn(walk: Walk, log: &[u8], home: &[u8], frames: &mut [u8], s: u64) -> Walk
-    requires { ⌜ (walk .table .count ≤ 32) × (length (now frames) ≡ walk .table .count * pageSize) × (blockSize ≤ length (now log)) × (pagesIn (length (now home)) ≤ 4096) × (s < sequenceEnd) × Legal (now log) (now home) s × (walk .refusal ≡ 0 → Ready (now log) (now home) s walk) ⌝ }
-    ensures { λ r. ⌜ Turns (now (log .entry)) (now (home .entry)) s (blockOf (now (log .entry)) s .kind) (blockOf (now (log .entry)) s .ticket) walk (now (frames .entry)) r (now (frames .exit)) ⌝ }
+fn turn(
+    stage: Stage,
+    seats: &mut [u64],
+    log: &[u8],
+    home: &[u8],
+    frames: &mut [u8],
+    s: u64,
+) -> Stage
+    requires { ⌜ (length (now seats) ≤ 32) × (length (now frames) ≡ length (now seats) * pageSize) × (blockSize ≤ length (now log)) × (pagesIn (length (now home)) ≤ 4096) × (s < sequenceEnd) × Legal (now log) (now home) s × (stage .refusal ≡ 0 → Ready (now log) (now home) s (walkOf stage (now seats))) ⌝ }
+    ensures { λ r. ⌜ Turns (now (log .entry)) (now (home .entry)) s (blockOf (now (log .entry)) s .kind) (blockOf (now (log .entry)) s .ticket) (walkOf stage (now (seats .entry))) (now (frames .entry)) (walkOf r (now (seats .exit))) (now (frames .exit)) ⌝ }
 {
-    if walk.refusal != 0 {
-        return walk;
+    if stage.refusal != 0 {
+        return stage;
     }
     let block = header(log, s);
     let kind = block.kind;
@@ -299,54 +305,63 @@ fn turn(walk: Walk, log: &[u8], home: &[u8], frames: &mut [u8], s: u64) -> Walk
             page,
             offset,
             length,
-        } => walk_update(walk, s, index, block.ticket),
-        Kind::Commit { updates } => walk_commit(walk, log, home, frames, s, updates, block.ticket),
-        Kind::Clean { page } => walk_clean(walk, s, page, block.ticket),
+        } => walk_update(stage, s, index, block.ticket),
+        Kind::Commit { updates } => walk_commit(
+            stage,
+            seats,
+            log,
+            home,
+            frames,
+            s,
+            updates,
+            block.ticket,
+        ),
+        Kind::Clean { page } => walk_clean(stage, seats, s, page, block.ticket),
     }
 }
 
 // The blocks from first to last are walked over.
 pub fn walk_all(
-    walk: Walk,
+    stage: Stage,
+    seats: &mut [u64],
     log: &[u8],
     home: &[u8],
     frames: &mut [u8],
     first: u64,
     last: u64,
-) -> Walk
-    requires { ⌜ (walk .table .count ≤ 32) × (length (now frames) ≡ walk .table .count * pageSize) × (blockSize ≤ length (now log)) × (pagesIn (length (now home)) ≤ 4096) × (first ≤ last + 1) × (last < sequenceEnd) × ((s : ℕ) → first ≤ s → s ≤ last → Legal (now log) (now home) s) × (walk .refusal ≡ 0 → Ready (now log) (now home) first walk) ⌝ }
-    ensures { λ r. ⌜ Walks (now (log .entry)) (now (home .entry)) first last walk (now (frames .entry)) r (now (frames .exit)) ⌝ }
+) -> Stage
+    requires { ⌜ (length (now seats) ≤ 32) × (length (now frames) ≡ length (now seats) * pageSize) × (blockSize ≤ length (now log)) × (pagesIn (length (now home)) ≤ 4096) × (first ≤ last + 1) × (last < sequenceEnd) × ((s : ℕ) → first ≤ s → s ≤ last → Legal (now log) (now home) s) × (stage .refusal ≡ 0 → Ready (now log) (now home) first (walkOf stage (now seats))) ⌝ }
+    ensures { λ r. ⌜ Walks (now (log .entry)) (now (home .entry)) first last (walkOf stage (now (seats .entry))) (now (frames .entry)) (walkOf r (now (seats .exit))) (now (frames .exit)) ⌝ }
 {
-    let mut w = walk;
+    let mut w = stage;
     let mut s = first;
     while s <= last {
-        w = turn(w, log, home, frames, s);
+        w = turn(w, seats, log, home, frames, s);
         s += 1;
     }
     w
 }
 
 // Whether H + D is at most the count of slots.
-fn span_fits(table: Table, slots: usize, next: u64) -> bool
-    requires { ⌜ (slots ≤ 1024) × (next ≤ sequenceEnd) ⌝ }
-    ensures { λ r. ⌜ r ≡ spanFits table slots next ⌝ }
+fn span_fits(seats: &[u64], slots: usize, next: u64) -> bool
+    requires { ⌜ (length (now seats) ≤ 32) × (slots ≤ 1024) × (next ≤ sequenceEnd) ⌝ }
+    ensures { λ r. ⌜ r ≡ spanFits (seated false (now (seats .entry))) slots next ⌝ }
 {
-    let held = next - table::oldest(table, next);
-    let dirty = table::dirty_pages(table) as u64;
+    let held = next - table::seats::oldest(seats, next);
+    let dirty = table::seats::dirty_pages(seats) as u64;
     held + dirty <= slots as u64
 }
 
 // The last test: H + D above the count of slots is 8 at the newest block.
-pub fn last_test(walk: Walk, slots: usize, last: u64) -> Walk
-    requires { ⌜ (slots ≤ 1024) × (last < sequenceEnd) ⌝ }
-    ensures { λ r. ⌜ r ≡ tested slots last walk ⌝ }
+pub fn last_test(stage: Stage, seats: &[u64], slots: usize, last: u64) -> Stage
+    requires { ⌜ (length (now seats) ≤ 32) × (slots ≤ 1024) × (last < sequenceEnd) ⌝ }
+    ensures { λ r. ⌜ walkOf r (now (seats .entry)) ≡ tested slots last (walkOf stage (now (seats .entry))) ⌝ }
 {
-    if walk.refusal != 0 {
-        return walk;
+    if stage.refusal != 0 {
+        return stage;
     }
-    let table = walk.table;
-    if !span_fits(table, slots, last + 1) {
-        return refused(walk, 8, last);
+    if !span_fits(seats, slots, last + 1) {
+        return refused(stage, 8, last);
     }
-    walk
+    stage
 }

@@ -1,9 +1,11 @@
--- `recovery::span_fits` meets its contract: the sums of the table.
+-- `recovery::span_fits` meets its contract: the sums of the seats.
 -- Assumes nothing.
 use mathlib.Core.Path.{ap, _∙_}
 use Prim.Native.Nat.{ℕ, _+_, _-_}
 use lib.Dec.{leb}
 use Rattle.promises.specs.Sums.{firstGroups, smallest}
+use Rattle.table.specs.Seats.{dirtyIn}
+use native.Mathlib.Omega.{arith}
 use borrow.Author.Needs.{needs}
 use Rattle.recovery.proofs.span_fits.Statement.{statement}
 use Rattle.recovery.proofs.span_fits.Tie as tie
@@ -22,9 +24,9 @@ add-result c = search needs
 
 returns : tie.Need-returns
 returns c =
-    let a = (c .before .before) .args in
+    let a = (c .before .before .before) .args in
     ap (λ (k : ℕ). leb (a .next - k + c .dirty-pages .result) (a .slots)) ((c .before) .oldest .ensures .0)
-    ∙ ap (λ (d : ℕ). leb (a .next - smallest (a .next) (firstGroups (a .table .dirty)) + d) (a .slots)) (c .dirty-pages .ensures .0)
+    ∙ ap (λ (d : ℕ). leb (a .next - smallest (a .next) (firstGroups (dirtyIn (a .seats .now))) + d) (a .slots)) (c .dirty-pages .ensures .0)
 
 pub span-fits-spec : {M : Type 1} → statement M
 span-fits-spec =

@@ -2,7 +2,7 @@
 -- Assumes nothing.
 use mathlib.Core.Path.{sym, ap, _∙_}
 use Rattle.block.specs.declared.Block.{Block}
-use Rattle.recovery.specs.Walking.{updated}
+use Rattle.recovery.specs.Walking.{walkOf, updated}
 use Rattle.recovery.proofs.Changing.{commits-as, cleans-as}
 use Rattle.recovery.proofs.Turning.{turns-not, turns-update, turns-clean, turns-commit}
 use native.Mathlib.Omega.{arith}
@@ -12,8 +12,8 @@ use Rattle.recovery.proofs.turn.Tie as tie
 
 returns : tie.Need-returns
 returns c =
-    let a = (c .before .before .before .before .before) .args in
-    turns-not (a .log .now) (a .home .now) (a .s) _ _ (a .walk) (a .frames .now) (c .if1 .taken)
+    let a = (c .before .before .before .before .before .before) .args in
+    turns-not (a .log .now) (a .home .now) (a .s) _ _ (walkOf (a .stage) (a .seats .now)) (a .frames .now) (c .if1 .taken)
 
 header-requires : tie.Need-header-requires
 header-requires c κs = search needs
@@ -22,49 +22,61 @@ enum-known-kind : tie.Need-enum-known-kind
 enum-known-kind c = search needs
 
 walk-update-requires : tie.Need-walk-update-requires
-walk-update-requires c κs = omega (arith, (c .before .before .before .before .before .before .before .before .before) .pre .6 ((c .before .before .before .before) .if1 .left) .few)
+walk-update-requires c κs =
+    let z = (c .before .before .before .before) .if1 .left in
+    (omega (arith, (c .before .before .before .before .before .before .before .before .before .before) .pre .6 z .few), z)
 
 enum-known-kind-2 : tie.Need-enum-known-kind-2
 enum-known-kind-2 c = search needs
 
 walk-commit-requires : tie.Need-walk-commit-requires
 walk-commit-requires c κs =
-    (omega arith, omega arith, omega arith, omega arith, omega arith, (c .before .before .before .before .before .before .before .before .before .before) .pre .6 ((c .before .before .before .before .before) .if1 .left))
+    let z = (c .before .before .before .before .before .before) .if1 .left in
+    (omega arith, omega arith, omega arith, omega arith, omega arith, z, (c .before .before .before .before .before .before .before .before .before .before .before .before) .pre .6 z)
 
 enum-known-kind-3 : tie.Need-enum-known-kind-3
 enum-known-kind-3 c = search needs
 
 walk-clean-requires : tie.Need-walk-clean-requires
-walk-clean-requires c κs = search needs
+walk-clean-requires c κs = (omega arith, (c .before .before .before .before .before) .if1 .left)
 
 returns-2 : tie.Need-returns-2
 returns-2 c =
-    let a = (c .before .before .before .before .before .before .before .before .before .before) .args in
+    let a = (c .before .before .before .before .before .before .before .before .before .before .before) .args in
     let told = sym (ap (λ (b : Block). b .kind) ((c .before .before .before .before) .header .ensures)) ∙ (c .before .before) .kind .given .1 in
-    let ready = (c .before .before .before .before .before .before .before .before .before .before) .pre .6 ((c .before .before .before .before .before) .if1 .left) in
+    let z = (c .before .before .before .before .before) .if1 .left in
+    let ready = (c .before .before .before .before .before .before .before .before .before .before .before) .pre .6 z in
     let g = (c .before .before) .kind .given .0 in
-    turns-update (a .log .now) (a .home .now) (a .s) (a .walk) (a .frames .now) ((c .before .before .before .before .before .before .before .before .before .before) .pre .5) ((c .before .before .before .before .before) .if1 .left) ready (g .0) (g .1 .0) (g .1 .1 .0) (g .1 .1 .1 .0) told _
-    (c .walk-update .ensures ∙ ap (λ (b : Block). updated (a .walk) (a .s) (g .0) (b .ticket)) ((c .before .before .before .before) .header .ensures))
+    turns-update (a .log .now) (a .home .now) (a .s) (walkOf (a .stage) (a .seats .now)) (a .frames .now) ((c .before .before .before .before .before .before .before .before .before .before .before) .pre .5) z ready (g .0) (g .1 .0) (g .1 .1 .0) (g .1 .1 .1 .0) told _
+    (c .walk-update .ensures (a .seats .now) ∙ ap (λ (b : Block). updated (walkOf (a .stage) (a .seats .now)) (a .s) (g .0) (b .ticket)) ((c .before .before .before .before) .header .ensures))
 
 same-length : tie.Need-same-length
 same-length c = search needs
 
+same-length-2 : tie.Need-same-length-2
+same-length-2 c = search needs
+
 returns-3 : tie.Need-returns-3
 returns-3 c =
-    let a = (c .before .before .before .before .before .before .before .before .before .before .before .before .before) .args in
-    let told = sym (ap (λ (b : Block). b .kind) ((c .before .before .before .before .before .before .before) .header .ensures)) ∙ (c .before .before .before .before .before) .kind2 .given .1 in
-    let ready = (c .before .before .before .before .before .before .before .before .before .before .before .before .before) .pre .6 ((c .before .before .before .before .before .before .before .before) .if1 .left) in
-    turns-commit (a .log .now) (a .home .now) (a .s) (a .walk) (a .frames .now) ((c .before .before .before .before .before .before .before .before .before .before .before .before .before) .pre .5) ((c .before .before .before .before .before .before .before .before) .if1 .left) ready ((c .before .before .before .before .before) .kind2 .given .0 .0) told _ _
-    (commits-as (a .log .now) (a .home .now) (a .walk) (a .frames .now) (a .s) _ _ _ _ _ (ap (λ (b : Block). b .ticket) ((c .before .before .before .before .before .before .before) .header .ensures))
-    ((c .before .before) .walk-commit .ensures))
+    let a = (c .before .before .before .before .before .before .before .before .before .before .before .before .before .before .before .before .before) .args in
+    let told = sym (ap (λ (b : Block). b .kind) ((c .before .before .before .before .before .before .before .before .before .before) .header .ensures)) ∙ (c .before .before .before .before .before .before .before .before) .kind2 .given .1 in
+    let z = (c .before .before .before .before .before .before .before .before .before .before .before) .if1 .left in
+    let ready = (c .before .before .before .before .before .before .before .before .before .before .before .before .before .before .before .before .before) .pre .6 z in
+    turns-commit (a .log .now) (a .home .now) (a .s) (walkOf (a .stage) (a .seats .now)) (a .frames .now) ((c .before .before .before .before .before .before .before .before .before .before .before .before .before .before .before .before .before) .pre .5) z ready ((c .before .before .before .before .before .before .before .before) .kind2 .given .0 .0) told _ _
+    (commits-as (a .log .now) (a .home .now) (walkOf (a .stage) (a .seats .now)) (a .frames .now) (a .s) _ _ _ _ _ (ap (λ (b : Block). b .ticket) ((c .before .before .before .before .before .before .before .before .before .before) .header .ensures))
+    ((c .before .before .before .before) .walk-commit .ensures))
+
+same-length-3 : tie.Need-same-length-3
+same-length-3 c = search needs
 
 returns-4 : tie.Need-returns-4
 returns-4 c =
-    let a = (c .before .before .before .before .before .before .before .before .before .before) .args in
-    let told = sym (ap (λ (b : Block). b .kind) ((c .before .before .before .before) .header .ensures)) ∙ (c .before .before) .kind3 .given .1 in
-    let ready = (c .before .before .before .before .before .before .before .before .before .before) .pre .6 ((c .before .before .before .before .before) .if1 .left) in
-    turns-clean (a .log .now) (a .home .now) (a .s) (a .walk) (a .frames .now) ((c .before .before .before .before .before .before .before .before .before .before) .pre .5) ((c .before .before .before .before .before) .if1 .left) ready ((c .before .before) .kind3 .given .0 .0) told _
-    (cleans-as (a .walk) (a .s) _ _ _ _ (ap (λ (b : Block). b .ticket) ((c .before .before .before .before) .header .ensures)) (c .walk-clean .ensures))
+    let a = (c .before .before .before .before .before .before .before .before .before .before .before .before .before .before) .args in
+    let told = sym (ap (λ (b : Block). b .kind) ((c .before .before .before .before .before .before .before) .header .ensures)) ∙ (c .before .before .before .before .before) .kind3 .given .1 in
+    let z = (c .before .before .before .before .before .before .before .before) .if1 .left in
+    let ready = (c .before .before .before .before .before .before .before .before .before .before .before .before .before .before) .pre .6 z in
+    turns-clean (a .log .now) (a .home .now) (a .s) (walkOf (a .stage) (a .seats .now)) (a .frames .now) ((c .before .before .before .before .before .before .before .before .before .before .before .before .before .before) .pre .5) z ready ((c .before .before .before .before .before) .kind3 .given .0 .0) told _
+    (cleans-as (walkOf (a .stage) (a .seats .now)) (a .s) _ _ _ _ (ap (λ (b : Block). b .ticket) ((c .before .before .before .before .before .before .before) .header .ensures)) ((c .before .before) .walk-clean .ensures))
 
 pub turn-spec : {M : Type 1} → statement M
 turn-spec =
@@ -80,5 +92,7 @@ turn-spec =
     walk-clean-requires
     returns-2
     same-length
+    same-length-2
     returns-3
+    same-length-3
     returns-4)

@@ -3,7 +3,7 @@
 use Prim.Native.Nat.{ℕ, suc, _≤_, _-_, _+_}
 use mathlib.Core.Path.{_≡_, refl, _∙_, subst}
 use lib.ListN.{length}
-use Rattle.recovery.specs.Walking.{Ready}
+use Rattle.recovery.specs.Walking.{walkOf, Ready}
 use Rattle.recovery.proofs.Leading.{Leading, leading-more, leading-end}
 use borrow.Author.Needs.{needs}
 use native.Mathlib.Omega.{arith}
@@ -11,20 +11,20 @@ use Rattle.recovery.proofs.walk_all.Statement.{statement}
 use Rattle.recovery.proofs.walk_all.Tie as tie
 
 abbrev Inv-loop : tie.InvT-loop
-Inv-loop log home frames₀ first last w₀ s₀ frames w s =
-    (first ≤ s) × (s ≤ last + 1) × (length frames ≡ length frames₀) × (w .table .count ≡ w₀ .table .count)
-    × (w .refusal ≡ 0 → Ready log home s w) × Leading log home first last w₀ frames₀ s w frames
+Inv-loop seats₀ log home frames₀ first last w₀ s₀ seats frames w s =
+    (first ≤ s) × (s ≤ last + 1) × (length frames ≡ length frames₀) × (length seats ≡ length seats₀)
+    × (w .refusal ≡ 0 → Ready log home s (walkOf w seats)) × Leading log home first last (walkOf w₀ seats₀) frames₀ s (walkOf w seats) frames
 
 abbrev μ-loop : tie.MeasureT-loop
-μ-loop log home frames₀ first last w₀ s₀ frames w s = last + 1 - s
+μ-loop seats₀ log home frames₀ first last w₀ s₀ seats frames w s = last + 1 - s
 
 loop-holds : tie.Need-loop-holds Inv-loop μ-loop
-loop-holds c = (omega arith, omega arith, refl, refl, (c .before .before .before) .pre .7, λ slots next found l. l)
+loop-holds c = (omega arith, omega arith, refl, refl, (c .before .before .before .before) .pre .7, λ slots next found l. l)
 
 turn-requires : tie.Need-turn-requires Inv-loop μ-loop
 turn-requires c κs =
-    let l = (c .before .before) .loop in
-    (omega arith, omega arith, omega arith, omega arith, omega arith, (c .before .before .before .before .before .before) .pre .6 (l .s) (omega arith) (omega arith), l .inv .4)
+    let l = (c .before .before .before) .loop in
+    (omega arith, omega arith, omega arith, omega arith, omega arith, (c .before .before .before .before .before .before .before .before) .pre .6 (l .s) (omega arith) (omega arith), l .inv .4)
 
 add-s : tie.Need-add-s Inv-loop μ-loop
 add-s c = search needs
@@ -34,15 +34,15 @@ loop-less c = search needs
 
 loop-again : tie.Need-loop-again Inv-loop μ-loop
 loop-again c =
-    let a = (c .before .before .before .before .before .before .before .before .before) .args in
-    let l = (c .before .before .before .before .before) .loop in
-    let t = (c .before .before) .turn in (
+    let a = (c .before .before .before .before .before .before .before .before .before .before .before .before .before) .args in
+    let l = (c .before .before .before .before .before .before .before .before) .loop in
+    let t = (c .before .before .before .before) .turn in (
       omega arith,
       omega arith,
-      t .kept .1 .1 .1 .0 ∙ l .inv .2,
+      t .kept .1 .1 .1 .1 .0 ∙ l .inv .2,
       t .ensures .countIs ∙ l .inv .3,
-      λ e. subst (λ (n : ℕ). Ready (a .log .now) (a .home .now) n (t .result)) (one (l .s)) (t .ensures .ready e),
-      leading-more (a .log .now) (a .home .now) (a .first) (a .last) (a .walk) (a .frames .now) (l .s) (l .w) _ (l .frames) _ (omega arith) (t .ensures) (l .inv .5),
+      λ e. subst (λ (n : ℕ). Ready (a .log .now) (a .home .now) n (walkOf (t .result) (t .last .1 .0))) (one (l .s)) (t .ensures .ready e),
+      leading-more (a .log .now) (a .home .now) (a .first) (a .last) (walkOf (a .stage) (a .seats .now)) (a .frames .now) (l .s) (walkOf (l .w) (l .seats)) _ (l .frames) _ (omega arith) (t .ensures) (l .inv .5),
     )
   where
     one : (n : ℕ) → suc n ≡ n + 1
@@ -51,15 +51,18 @@ loop-again c =
 same-length : tie.Need-same-length Inv-loop μ-loop
 same-length c = search needs
 
+same-length-2 : tie.Need-same-length-2 Inv-loop μ-loop
+same-length-2 c = search needs
+
 returns : tie.Need-returns Inv-loop μ-loop
 returns c =
-    let a = (c .before .before .before .before .before) .args in
+    let a = (c .before .before .before .before .before .before) .args in
     let l = (c .before) .loop in
     let e : l .s ≡ a .last + 1 = omega arith in
     record {
       countIs = l .inv .3;
-      ready = λ z. subst (λ (n : ℕ). Ready (a .log .now) (a .home .now) n (l .w)) e (l .inv .4 z);
-      leads = leading-end (a .log .now) (a .home .now) (a .first) (a .last) (a .walk) (a .frames .now) (l .s) (l .w) (l .frames) e (l .inv .5);
+      ready = λ z. subst (λ (n : ℕ). Ready (a .log .now) (a .home .now) n (walkOf (l .w) (l .seats))) e (l .inv .4 z);
+      leads = leading-end (a .log .now) (a .home .now) (a .first) (a .last) (walkOf (a .stage) (a .seats .now)) (a .frames .now) (l .s) (walkOf (l .w) (l .seats)) (l .frames) e (l .inv .5);
     }
 
 pub walk-all-spec : {M : Type 1} → statement M
@@ -74,4 +77,5 @@ walk-all-spec =
     loop-less
     loop-again
     same-length
+    same-length-2
     returns)

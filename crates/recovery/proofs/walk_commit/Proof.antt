@@ -1,10 +1,11 @@
 -- `recovery::walk_commit` meets its contract, by its test and by whether a page found no frame.
 -- Assumes nothing.
 use Prim.Native.Nat.{_+_}
-use mathlib.Core.Path.{_≡_, ap, _∙_}
-use Rattle.recovery.specs.declared.Walk.{Walk}
-use Rattle.recovery.specs.Walking.{refusedAt}
-use Rattle.recovery.proofs.Changing.{fails, holds, commits-wrong, commits-right, by-full, by-room}
+use mathlib.Core.Path.{_≡_}
+use borrow.Author.Tests.{not-true, not-false}
+use Rattle.recovery.specs.Walking.{walkOf}
+use Rattle.recovery.proofs.Changing.{fails, holds, commits-wrong}
+use Rattle.recovery.proofs.Stages.{refuses-as, commits-full, commits-room}
 use Rattle.recovery.proofs.Turning.{commit-told}
 use native.Mathlib.Omega.{arith}
 use borrow.Author.Needs.{needs}
@@ -19,17 +20,17 @@ refused-requires c κs = search needs
 
 returns : tie.Need-returns
 returns c =
-    let a = (c .before .before .before .before .before .before) .args in
-    commits-wrong (a .log .now) (a .home .now) (a .walk) (a .frames .now) (a .s) (a .updates) (a .ticket) _ _
-    (fails _ _ ((c .before .before) .commit-fits .ensures) ((c .before) .if1 .taken)) (c .refused .ensures)
+    let a = (c .before .before .before .before .before .before .before) .args in
+    commits-wrong (a .log .now) (a .home .now) (walkOf (a .stage) (a .seats .now)) (a .frames .now) (a .s) (a .updates) (a .ticket) _ _
+    (fails _ _ ((c .before .before) .commit-fits .ensures (a .seats .now)) ((c .before) .if1 .taken)) (refuses-as (a .stage) (a .seats .now) ((c .before .before .before .before .before .before .before) .pre .5) (a .s) _ (c .refused .ensures))
 
 apply-group-requires : tie.Need-apply-group-requires
 apply-group-requires c κs =
-    let a = (c .before .before .before .before .before .before .before) .args in
-    let p = (c .before .before .before .before .before .before .before) .pre in
-    let more = commit-told (a .walk) (a .updates) (a .ticket) (holds _ _ ((c .before .before .before) .commit-fits .ensures) ((c .before .before) .if1 .left)) in
-    let y = p .5 in
-    let end : a .walk .start + a .walk .count ≡ a .s = y .half (more .0) in
+    let a = (c .before .before .before .before .before .before .before .before) .args in
+    let p = (c .before .before .before .before .before .before .before .before) .pre in
+    let more = commit-told (walkOf (a .stage) (a .seats .now)) (a .updates) (a .ticket) (holds _ _ ((c .before .before .before) .commit-fits .ensures (a .seats .now)) ((c .before .before) .if1 .left)) in
+    let y = p .6 in
+    let end : a .stage .start + a .stage .count ≡ a .s = y .half (more .0) in
     (omega arith, omega arith, omega arith, omega arith, y .begins (more .0), omega arith, y .placed)
 
 closed-requires : tie.Need-closed-requires
@@ -41,22 +42,28 @@ refused-requires-2 c κs = search needs
 same-length : tie.Need-same-length
 same-length c = search needs
 
-returns-2 : tie.Need-returns-2
-returns-2 c =
-    let a = (c .before .before .before .before .before .before .before .before .before .before .before .before .before) .args in
-    let w = (c .before .before) .closed in
-    commits-right (a .log .now) (a .home .now) (a .walk) (a .frames .now) (a .s) (a .updates) (a .ticket) _ _ ((c .before .before .before .before .before) .apply-group .result) (holds _ _ ((c .before .before .before .before .before .before .before .before .before) .commit-fits .ensures) ((c .before .before .before .before .before .before .before .before) .if1 .left))
-    ((c .before .before .before .before .before) .apply-group .ensures)
-    (by-full _ _ _ _ ((c .before) .if2 .taken) (c .refused2 .ensures ∙ ap (λ (x : Walk). refusedAt x 9 (a .s)) (w .ensures)))
-
 same-length-2 : tie.Need-same-length-2
 same-length-2 c = search needs
 
+returns-2 : tie.Need-returns-2
+returns-2 c =
+    let a = (c .before .before .before .before .before .before .before .before .before .before .before .before .before .before .before .before) .args in
+    let g = (c .before .before .before .before .before .before .before) .apply-group in
+    commits-full (a .log .now) (a .home .now) (a .stage) (a .seats .now) (a .frames .now) (a .s) (a .updates) (a .ticket) ((c .before .before .before .before .before .before .before .before .before .before .before .before .before .before .before .before) .pre .5)
+    (holds _ _ ((c .before .before .before .before .before .before .before .before .before .before .before) .commit-fits .ensures (a .seats .now)) ((c .before .before .before .before .before .before .before .before .before .before) .if1 .left)) (g .result) _ _ (g .ensures) _ ((c .before .before) .closed .ensures) _ (not-true _ ((c .before) .if2 .taken)) (c .refused2 .ensures)
+
+same-length-3 : tie.Need-same-length-3
+same-length-3 c = search needs
+
+same-length-4 : tie.Need-same-length-4
+same-length-4 c = search needs
+
 returns-3 : tie.Need-returns-3
 returns-3 c =
-    let a = (c .before .before .before .before .before .before .before .before .before .before .before .before) .args in
-    commits-right (a .log .now) (a .home .now) (a .walk) (a .frames .now) (a .s) (a .updates) (a .ticket) _ _ ((c .before .before .before .before) .apply-group .result) (holds _ _ ((c .before .before .before .before .before .before .before .before) .commit-fits .ensures) ((c .before .before .before .before .before .before .before) .if1 .left))
-    ((c .before .before .before .before) .apply-group .ensures) (by-room _ _ _ _ (c .if2 .left) ((c .before) .closed .ensures))
+    let a = (c .before .before .before .before .before .before .before .before .before .before .before .before .before .before .before) .args in
+    let g = (c .before .before .before .before .before .before) .apply-group in
+    commits-room (a .log .now) (a .home .now) (a .stage) (a .seats .now) (a .frames .now) (a .s) (a .updates) (a .ticket) ((c .before .before .before .before .before .before .before .before .before .before .before .before .before .before .before) .pre .5)
+    (holds _ _ ((c .before .before .before .before .before .before .before .before .before .before) .commit-fits .ensures (a .seats .now)) ((c .before .before .before .before .before .before .before .before .before) .if1 .left)) (g .result) _ _ (g .ensures) _ ((c .before) .closed .ensures) (not-false _ (c .if2 .left))
 
 pub walk-commit-spec : {M : Type 1} → statement M
 walk-commit-spec =
@@ -69,6 +76,8 @@ walk-commit-spec =
     closed-requires
     refused-requires-2
     same-length
-    returns-2
     same-length-2
+    returns-2
+    same-length-3
+    same-length-4
     returns-3)

@@ -1,8 +1,12 @@
 -- `recovery::walk_update` meets its contract, by its two tests.
 -- Assumes nothing.
-use mathlib.Core.Path.{_∙_}
+use mathlib.Core.Path.{ap, _∙_}
 use borrow.Author.Tests.{eq-eqb, ne-eqb}
+use Rattle.recovery.specs.declared.Stage.{Stage}
+use Rattle.recovery.specs.Walking.{walkOf}
 use Rattle.recovery.proofs.Changing.{fails, holds, updated-wrong, updated-first, updated-next}
+use Rattle.recovery.proofs.Stages.{refuses-as}
+use native.Mathlib.Omega.{arith}
 use borrow.Author.Needs.{needs}
 use Rattle.recovery.proofs.walk_update.Statement.{statement}
 use Rattle.recovery.proofs.walk_update.Tie as tie
@@ -16,8 +20,8 @@ refused-requires c κs = search needs
 returns : tie.Need-returns
 returns c =
     let a = (c .before .before .before) .args in
-    c .refused .ensures
-    ∙ updated-wrong (a .walk) (a .sequence) (a .index) (a .ticket) (fails _ _ ((c .before .before) .update-fits .ensures) ((c .before) .if1 .taken))
+    λ seats. refuses-as (a .stage) seats ((c .before .before .before) .pre .1) (a .sequence) _ (c .refused .ensures)
+    ∙ updated-wrong (walkOf (a .stage) seats) (a .sequence) (a .index) (a .ticket) (fails _ _ ((c .before .before) .update-fits .ensures seats) ((c .before) .if1 .taken))
 
 half-requires : tie.Need-half-requires
 half-requires c κs = search needs
@@ -25,8 +29,8 @@ half-requires c κs = search needs
 returns-2 : tie.Need-returns-2
 returns-2 c =
     let a = (c .before .before .before .before) .args in
-    c .half .ensures
-    ∙ updated-first (a .walk) (a .sequence) (a .index) (a .ticket) (holds _ _ ((c .before .before .before) .update-fits .ensures) ((c .before .before) .if1 .left)) (eq-eqb _ _ ((c .before) .if2 .taken))
+    λ seats. ap (λ (w : Stage). walkOf w seats) (c .half .ensures)
+    ∙ updated-first (walkOf (a .stage) seats) (a .sequence) (a .index) (a .ticket) (holds _ _ ((c .before .before .before) .update-fits .ensures seats) ((c .before .before) .if1 .left)) (eq-eqb _ _ ((c .before) .if2 .taken))
 
 half-requires-2 : tie.Need-half-requires-2
 half-requires-2 c κs = search needs
@@ -34,8 +38,8 @@ half-requires-2 c κs = search needs
 returns-3 : tie.Need-returns-3
 returns-3 c =
     let a = (c .before .before .before .before) .args in
-    c .half2 .ensures
-    ∙ updated-next (a .walk) (a .sequence) (a .index) (a .ticket) (holds _ _ ((c .before .before .before) .update-fits .ensures) ((c .before .before) .if1 .left)) (ne-eqb _ _ ((c .before) .if2 .left))
+    λ seats. ap (λ (w : Stage). walkOf w seats) (c .half2 .ensures)
+    ∙ updated-next (walkOf (a .stage) seats) (a .sequence) (a .index) (a .ticket) (holds _ _ ((c .before .before .before) .update-fits .ensures seats) ((c .before .before) .if1 .left)) (ne-eqb _ _ ((c .before) .if2 .left))
 
 pub walk-update-spec : {M : Type 1} → statement M
 walk-update-spec =
