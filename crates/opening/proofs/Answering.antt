@@ -26,8 +26,7 @@ use Rattle.table.specs.Table.{Holds, Each}
 use Rattle.table.proofs.Entries.{within-most}
 use Rattle.table.proofs.Holding.{held-below, Below}
 use Rattle.recovery.specs.Walking.{Early}
-use Rattle.opening.specs.declared.Found.{Found}
-use Rattle.opening.specs.Findings.{Accepts, Finds}
+use Rattle.opening.specs.Findings.{FoundWalk, Accepts, Finds}
 use Rattle.opening.specs.States.{idleState}
 use Rattle.opening.proofs.Ending.{walk-refusals}
 
@@ -72,7 +71,7 @@ unfolding finding
 finding-refusals slots pages frames log home refusal place e =
     gathered-refusals slots frames (pageAt home) (slotsOf slots pages log) (gathered slots (slotsOf slots pages log)) refusal place e
 
-module _ (log home : List ℕ) (count : ℕ) (found : Found) (frames : List ℕ) (slots pages : ℕ)
+module _ (log home : List ℕ) (count : ℕ) (found : FoundWalk) (frames : List ℕ) (slots pages : ℕ)
     (x : Finds log home count (finding slots pages count log home) found frames) where
   pub refusal-range : (found .walk .refusal ≡ 0 → ⊥) → (7 ≤ found .walk .refusal) × (found .walk .refusal ≤ 9)
   refusal-range n = finding-refusals slots pages count log home (found .walk .refusal) (found .walk .place) (x .refused n)
@@ -126,7 +125,7 @@ module _ (log home frames staging : List ℕ) (r : OpenOutcome) (frames′ : Lis
       → r .state ≡ allZeroState → frames′ ≡ frames → Opens log home frames staging r frames′
   opens-lengths e a p s f = opens-stopped 1 0 (by-lengths false e) record { refusalIs = a; placeIs = p; stateIs = s; framesAre = f }
 
-  module _ (fit : lengthsFit (length log) (length home) (length frames) (length staging) ≡ true) (found : Found) (mid : List ℕ)
+  module _ (fit : lengthsFit (length log) (length home) (length frames) (length staging) ≡ true) (found : FoundWalk) (mid : List ℕ)
       (x : Finds log home (framesIn (length frames)) (finding (slotsIn (length log)) (pagesIn (length home)) (framesIn (length frames)) log home) found mid) where
     told : Lengths (length log) (length home) (length frames) (length staging)
     told = lengths-told (length log) (length home) (length frames) (length staging) fit

@@ -7,19 +7,32 @@ use Prim.Native.Nat.{ℕ, suc, _+_, _-_, _≤_, _<_}
 use native.Mathlib.Omega.{arith}
 use native.Mathlib.Decide.{ℕ-discrete}
 use lib.Dec.{leb}
-use lib.ListN.{length}
+use lib.ListN.{length, replicate}
 use Rattle.block.proofs.Tests.{by-cases}
 use Rattle.block.specs.Sizes.{sequenceEnd}
 use Rattle.promises.specs.Areas.{pageAt, slotsIn}
 use Rattle.promises.specs.Blocks.{LogBlock}
 use Rattle.promises.specs.DirtyPages.{keepFromOf}
 use Rattle.promises.specs.Walk.{Walk as PaperWalk, Finding, stops, stands, ending, walkFrom, startWith, inOrder, framed, walkBlock}
+use Rattle.table.specs.declared.Table.{Table}
 use Rattle.table.proofs.Holding.{empty-holds, held-count, held-keep}
-use Rattle.recovery.specs.declared.Walk.{Walk}
+use Rattle.table.proofs.Seating.{seated-empty}
 use Rattle.recovery.specs.Log.{updatesFrom, blocksFrom}
-use Rattle.recovery.specs.Walking.{refusedAt, spanFits, tested, Ready, Stands, Leads, Walks}
+use Rattle.recovery.specs.Walking.{Walk, walkOf, refusedAt, spanFits, tested, Ready, Stands, Leads, Walks}
 use Rattle.recovery.proofs.Changing.{tested-not, tested-by}
-use Rattle.opening.specs.Findings.{startOf, Finds}
+use Rattle.opening.specs.Findings.{foundOf, stageStart, startOf, foundStopped, stoppedAt, Finds}
+
+-- ---- seats that are all zero: no page is dirty
+
+module _ (count : ℕ) (seats : List ℕ) (h : count ≤ 32) (e : seats ≡ replicate count 0) where
+  pub start-is : (ticket : ℕ) → walkOf (stageStart ticket) seats ≡ startOf count ticket
+  start-is ticket =
+      ap (λ (t : Table). record { refusal = 0; place = 0; ticket = ticket; start = 0; count = 0; table = t }) (seated-empty false count seats h e)
+
+  pub stopped-is : (place : ℕ) → foundOf (foundStopped place) seats ≡ stoppedAt count place
+  stopped-is place =
+      ap (λ (t : Table). record { newest = 0; walk = record { refusal = 7; place = place; ticket = 0; start = 0; count = 0; table = t } })
+      (seated-empty false count seats h e)
 
 -- ---- the start
 

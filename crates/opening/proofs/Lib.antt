@@ -1,5 +1,6 @@
 pub mod Gathering
 pub mod Ending
+pub mod Lending
 pub mod Reading
 pub mod Answering
 pub mod Alike

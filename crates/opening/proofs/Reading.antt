@@ -18,18 +18,17 @@ use Rattle.promises.specs.Walk.{Finding, stops, walkFrom, startWith, finding}
 use Rattle.recovery.specs.declared.Scan.{Scan}
 use Rattle.recovery.specs.Log.{headerOf, blocksFrom, Legal}
 use Rattle.recovery.specs.Slots.{standing, Scanned, Lowest}
-use Rattle.opening.specs.declared.Found.{Found}
-use Rattle.opening.specs.Findings.{stoppedAt, Finds}
+use Rattle.opening.specs.Findings.{FoundWalk, stoppedAt, Finds}
 use Rattle.opening.proofs.Gathering.{stands-legal, newest-stands, finds-fresh, finds-damaged, finds-missing, finds-blocks}
 
 -- a walk that was stopped at a missing block
-stopped-finds : (log home : List ℕ) (count place : ℕ) (found : Finding) (r : Found) (frames : List ℕ) → found ≡ stops 7 place → r ≡ stoppedAt count place
+stopped-finds : (log home : List ℕ) (count place : ℕ) (found : Finding) (r : FoundWalk) (frames : List ℕ) → found ≡ stops 7 place → r ≡ stoppedAt count place
     → Finds log home count found r frames
 stopped-finds log home count place found r frames e q =
-    subst (λ (x : Found). Finds log home count found x frames) (sym q)
+    subst (λ (x : FoundWalk). Finds log home count found x frames) (sym q)
     record { countIs = refl; refused = λ n. e; accepted = λ z. absurd (omega arith) }
 
-pub finds-as : (log home : List ℕ) (count : ℕ) (found found′ : Finding) (r : Found) (frames : List ℕ) → found ≡ found′ → Finds log home count found r frames
+pub finds-as : (log home : List ℕ) (count : ℕ) (found found′ : Finding) (r : FoundWalk) (frames : List ℕ) → found ≡ found′ → Finds log home count found r frames
     → Finds log home count found′ r frames
 finds-as log home count found found′ r frames e x = subst (λ (f : Finding). Finds log home count f r frames) e x
 
@@ -57,12 +56,12 @@ module _ (log home sequences : List ℕ) (scan : Scan) (n : ℕ) (long : length 
       ∙ scanned .sequencesAre (slotOf N s) (mod-lt s (omega arith))
 
   -- no valid slot
-  pub reads-damaged : (count F : ℕ) (r : Found) (frames : List ℕ) → scan .newest ≡ 0 → scan .unused ≡ false → r ≡ stoppedAt count 0
+  pub reads-damaged : (count F : ℕ) (r : FoundWalk) (frames : List ℕ) → scan .newest ≡ 0 → scan .unused ≡ false → r ≡ stoppedAt count 0
       → Finds log home count (finding N P F log home) r frames
   reads-damaged count F r frames z u q =
       stopped-finds log home count 0 _ r frames (finds-damaged log home big F (sym (scanned .unusedIs) ∙ u) (sym (scanned .newestIs) ∙ z)) q
 
-  pub reads-fresh : (count F : ℕ) (r : Found) (frames : List ℕ) → scan .unused ≡ true
+  pub reads-fresh : (count F : ℕ) (r : FoundWalk) (frames : List ℕ) → scan .unused ≡ true
       → Finds log home count (walkFrom N F (pageAt home) 1 1 (blocksFrom log 1 0) (startWith 0)) r frames → Finds log home count (finding N P F log home) r frames
   reads-fresh count F r frames u x = finds-as log home count _ _ r frames (sym (finds-fresh log home big F (sym (scanned .unusedIs) ∙ u))) x
 
@@ -85,7 +84,7 @@ module _ (log home sequences : List ℕ) (scan : Scan) (n : ℕ) (long : length 
         (omega (arith, f .keep-one), omega (arith, f .keep-most, v .sequenceIs), omega (arith, f .most, v .sequenceIs))
 
     module _ (lost : ℕ) (low : Lowest sequences (last .«keep_from») (scan .newest) lost) where
-      pub reads-missing : (count F : ℕ) (r : Found) (frames : List ℕ) → lost ≤ scan .newest → r ≡ stoppedAt count lost
+      pub reads-missing : (count F : ℕ) (r : FoundWalk) (frames : List ℕ) → lost ≤ scan .newest → r ≡ stoppedAt count lost
           → Finds log home count (finding N P F log home) r frames
       reads-missing count F r frames h q =
           stopped-finds log home count lost _ r frames
@@ -102,7 +101,7 @@ module _ (log home sequences : List ℕ) (scan : Scan) (n : ℕ) (long : length 
         pub all-legal : (s : ℕ) → last .«keep_from» ≤ s → s ≤ scan .newest → Legal log home s
         all-legal s x y = stands-legal log home big s (omega (arith, keep-bounds .0)) (stand s x y)
 
-        pub reads-blocks : (count F : ℕ) (r : Found) (frames : List ℕ) (ticket : ℕ) → ticket ≡ headerOf log (last .«keep_from») .ticket
+        pub reads-blocks : (count F : ℕ) (r : FoundWalk) (frames : List ℕ) (ticket : ℕ) → ticket ≡ headerOf log (last .«keep_from») .ticket
             → Finds log home count (walkFrom N F (pageAt home) (scan .newest + 1) (last .«keep_from») (blocksFrom log (last .«keep_from») (scan .newest + 1 - last .«keep_from»)) (startWith ticket)) r frames
             → Finds log home count (finding N P F log home) r frames
         reads-blocks count F r frames ticket t x =

@@ -7,7 +7,7 @@ use promises::Opened;
 use promises::Refusal;
 use promises::Staged;
 use promises::State;
-use recovery::Walk;
+use recovery::Stage;
 ghost use mathlib.Core.Path.{_≡_};
 ghost use Prim.Native.Nat.{ℕ, _+_, _-_, _*_, _≤_, _<_};
 ghost use mathlib.Core.Bool.{cond};
@@ -20,13 +20,13 @@ ghost use Rattle.promises.specs.Contents.{allZeroState};
 ghost use Rattle.promises.specs.Walk.{walkFrom, startWith, finding};
 ghost use Rattle.promises.specs.Open.{lengthsFit, Opens};
 ghost use Rattle.recovery.specs.Log.{blocksFrom, Legal};
-ghost use Rattle.opening.specs.Findings.{startOf, stoppedAt, Finds};
+ghost use Rattle.opening.specs.Findings.{stageStart, foundStopped, foundOf, Finds};
 ghost use Rattle.opening.specs.States.{idleState};
 
 // What was found in a log: where the walk ended, and the newest sequence.
 pub struct Found {
     pub newest: u64,
-    pub walk: Walk,
+    pub stage: Stage,
 }
 
 // Whether the lent lengths are whole counts in range, and frames and staging are of one count.
@@ -44,84 +44,95 @@ fn lengths_fit(log: usize, home: usize, frames: usize, staging: usize) -> bool
     log_fits & home_fits & frames_fit
 }
 
-// Where a walk starts, with so many frames and the ticket that is believed.
-fn started(count: usize, ticket: u64) -> Walk
-    ensures { λ r. ⌜ r ≡ startOf count ticket ⌝ }
+// Where a walk starts, with the ticket that is believed.
+fn started(ticket: u64) -> Stage
+    ensures { λ r. ⌜ r ≡ stageStart ticket ⌝ }
 {
-    Walk {
+    Stage {
         refusal: 0,
         place: 0,
         ticket,
         start: 0,
         count: 0,
-        table: table::empty(count),
     }
 }
 
 // A block is missing at this place: refusal 7.
-fn stopped(count: usize, place: u64) -> Found
-    ensures { λ r. ⌜ r ≡ stoppedAt count place ⌝ }
+fn stopped(place: u64) -> Found
+    ensures { λ r. ⌜ r ≡ foundStopped place ⌝ }
 {
     Found {
         newest: 0,
-        walk: Walk {
+        stage: Stage {
             refusal: 7,
             place,
             ticket: 0,
             start: 0,
             count: 0,
-            table: table::empty(count),
         },
     }
 }
 
-// The walk over the blocks from first to last, which are all in their slots, and the last test.
-fn walked(log: &[u8], home: &[u8], frames: &mut [u8], first: u64, last: u64, ticket: u64) -> Found
-    requires { ⌜ (slotsIn (length (now log)) ≤ 1024) × (blockSize ≤ length (now log)) × (pagesIn (length (now home)) ≤ 4096) × (length (now frames) ≡ framesIn (length (now frames)) * pageSize) × (framesIn (length (now frames)) ≤ 32) ⌝ }
+// The walk over the blocks from first to last, which are all in their slots, and the last test. No seat is taken yet.
+fn walked(
+    seats: &mut [u64],
+    log: &[u8],
+    home: &[u8],
+    frames: &mut [u8],
+    first: u64,
+    last: u64,
+    ticket: u64,
+) -> Found
+    requires { ⌜ (slotsIn (length (now log)) ≤ 1024) × (blockSize ≤ length (now log)) × (pagesIn (length (now home)) ≤ 4096) × (length (now frames) ≡ framesIn (length (now frames)) * pageSize) × (framesIn (length (now frames)) ≤ 32) × (now seats ≡ replicate (framesIn (length (now frames))) 0) ⌝ }
     requires { ⌜ (first ≤ last + 1) × (last < sequenceEnd) × (ticket < first) × ((s : ℕ) → first ≤ s → s ≤ last → Legal (now log) (now home) s) ⌝ }
-    ensures { λ r. ⌜ Finds (now (log .entry)) (now (home .entry)) (framesIn (length (now (frames .entry)))) (walkFrom (slotsIn (length (now (log .entry)))) (framesIn (length (now (frames .entry)))) (pageAt (now (home .entry))) (last + 1) first (blocksFrom (now (log .entry)) first (last + 1 - first)) (startWith ticket)) r (now (frames .exit)) ⌝ }
+    ensures { λ r. ⌜ Finds (now (log .entry)) (now (home .entry)) (framesIn (length (now (frames .entry)))) (walkFrom (slotsIn (length (now (log .entry)))) (framesIn (length (now (frames .entry)))) (pageAt (now (home .entry))) (last + 1) first (blocksFrom (now (log .entry)) first (last + 1 - first)) (startWith ticket)) (foundOf r (now (seats .exit))) (now (frames .exit)) ⌝ }
 {
     let slots = log.len() / Block::SIZE;
-    let start = started(frames.len() / Block::PAGE, ticket);
-    let walk = recovery::walk_all(start, log, home, frames, first, last);
+    let start = started(ticket);
+    let stage = recovery::walk_all(start, seats, log, home, frames, first, last);
     Found {
         newest: last,
-        walk: recovery::last_test(walk, slots, last),
+        stage: recovery::last_test(stage, seats, slots, last),
     }
 }
 
 // What a log of right length holds, with room for each slot's sequence.
-fn find(log: &[u8], home: &[u8], frames: &mut [u8], sequences: &mut [u64]) -> Found
-    requires { ⌜ (length (now log) ≡ length (now sequences) * blockSize) × (8 ≤ length (now sequences)) × (length (now sequences) ≤ 1024) × (pagesIn (length (now home)) ≤ 4096) × (length (now frames) ≡ framesIn (length (now frames)) * pageSize) × (framesIn (length (now frames)) ≤ 32) ⌝ }
-    ensures { λ r. ⌜ Finds (now (log .entry)) (now (home .entry)) (framesIn (length (now (frames .entry)))) (finding (slotsIn (length (now (log .entry)))) (pagesIn (length (now (home .entry)))) (framesIn (length (now (frames .entry)))) (now (log .entry)) (now (home .entry))) r (now (frames .exit)) ⌝ }
+fn find(
+    seats: &mut [u64],
+    log: &[u8],
+    home: &[u8],
+    frames: &mut [u8],
+    sequences: &mut [u64],
+) -> Found
+    requires { ⌜ (length (now log) ≡ length (now sequences) * blockSize) × (8 ≤ length (now sequences)) × (length (now sequences) ≤ 1024) × (pagesIn (length (now home)) ≤ 4096) × (length (now frames) ≡ framesIn (length (now frames)) * pageSize) × (framesIn (length (now frames)) ≤ 32) × (now seats ≡ replicate (framesIn (length (now frames))) 0) ⌝ }
+    ensures { λ r. ⌜ Finds (now (log .entry)) (now (home .entry)) (framesIn (length (now (frames .entry)))) (finding (slotsIn (length (now (log .entry)))) (pagesIn (length (now (home .entry)))) (framesIn (length (now (frames .entry)))) (now (log .entry)) (now (home .entry))) (foundOf r (now (seats .exit))) (now (frames .exit)) ⌝ }
 {
-    let count = frames.len() / Block::PAGE;
     let scan = recovery::judge_all(log, home.len() / Block::PAGE, sequences);
     let newest = scan.newest;
     if newest == 0 {
         if !scan.unused {
-            return stopped(count, 0);
+            return stopped(0);
         }
-        return walked(log, home, frames, 1, 0, 0);
+        return walked(seats, log, home, frames, 1, 0, 0);
     }
     let last = recovery::header(log, newest);
     let keep = last.keep_from;
     let lost = recovery::missing(sequences, keep, newest);
     if lost <= newest {
-        return stopped(count, lost);
+        return stopped(lost);
     }
     let first = recovery::header(log, keep);
-    walked(log, home, frames, keep, newest, first.ticket)
+    walked(seats, log, home, frames, keep, newest, first.ticket)
 }
 
 // What a log of right length holds.
-fn read_log(log: &[u8], home: &[u8], frames: &mut [u8]) -> Found
-    requires { ⌜ (length (now log) ≡ slotsIn (length (now log)) * blockSize) × (8 ≤ slotsIn (length (now log))) × (slotsIn (length (now log)) ≤ 1024) × (pagesIn (length (now home)) ≤ 4096) × (length (now frames) ≡ framesIn (length (now frames)) * pageSize) × (framesIn (length (now frames)) ≤ 32) ⌝ }
-    ensures { λ r. ⌜ Finds (now (log .entry)) (now (home .entry)) (framesIn (length (now (frames .entry)))) (finding (slotsIn (length (now (log .entry)))) (pagesIn (length (now (home .entry)))) (framesIn (length (now (frames .entry)))) (now (log .entry)) (now (home .entry))) r (now (frames .exit)) ⌝ }
+fn read_log(seats: &mut [u64], log: &[u8], home: &[u8], frames: &mut [u8]) -> Found
+    requires { ⌜ (length (now log) ≡ slotsIn (length (now log)) * blockSize) × (8 ≤ slotsIn (length (now log))) × (slotsIn (length (now log)) ≤ 1024) × (pagesIn (length (now home)) ≤ 4096) × (length (now frames) ≡ framesIn (length (now frames)) * pageSize) × (framesIn (length (now frames)) ≤ 32) × (now seats ≡ replicate (framesIn (length (now frames))) 0) ⌝ }
+    ensures { λ r. ⌜ Finds (now (log .entry)) (now (home .entry)) (framesIn (length (now (frames .entry)))) (finding (slotsIn (length (now (log .entry)))) (pagesIn (length (now (home .entry)))) (framesIn (length (now (frames .entry)))) (now (log .entry)) (now (home .entry))) (foundOf r (now (seats .exit))) (now (frames .exit)) ⌝ }
 {
     let slots = log.len() / Block::SIZE;
     let mut sequences = [0; 1024];
-    find(log, home, frames, &mut sequences[..slots])
+    find(seats, log, home, frames, &mut sequences[..slots])
 }
 
 // A state with nothing queued, nothing open and no cleaning.
@@ -198,19 +209,19 @@ pub fn open(log: &[u8], home: &[u8], frames: &mut [u8], staging: &[u8]) -> OpenO
     if !lengths_fit(log.len(), home.len(), frames.len(), staging.len()) {
         return refused(Refusal::WrongLength, 0);
     }
-    let found = read_log(log, home, frames);
-    let walk = found.walk;
-    clear_refused(frames, walk.refusal);
-    if walk.refusal != 0 {
-        return refused(refusal_of(walk.refusal), walk.place);
+    let count = frames.len() / Block::PAGE;
+    let mut seats = [0; 32];
+    let found = read_log(&mut seats[..count], log, home, frames);
+    let stage = found.stage;
+    clear_refused(frames, stage.refusal);
+    if stage.refusal != 0 {
+        return refused(refusal_of(stage.refusal), stage.place);
     }
-    let table = walk.table;
-    let dirty = table.dirty;
+    let dirty = table::seats::entries(&seats[..count]);
     let pages = home.len() / Block::PAGE;
     let slots = log.len() / Block::SIZE;
-    let count = frames.len() / Block::PAGE;
     OpenOutcome {
-        state: idle(pages, slots, count, found.newest + 1, walk.ticket, dirty),
-        answer: Opened::Settled(walk.ticket),
+        state: idle(pages, slots, count, found.newest + 1, stage.ticket, dirty),
+        answer: Opened::Settled(stage.ticket),
     }
 }

@@ -5,12 +5,11 @@ use mathlib.Core.Bool.{Bool, true, false, not}
 use mathlib.Core.List.{List}
 use Prim.Native.Nat.{ℕ}
 use lib.Dec.{eqb}
-use Rattle.table.specs.declared.Table.{Table}
 use Rattle.table.specs.Table.{AppliesAll}
 use Rattle.table.specs.Seats.{seated}
 use Rattle.recovery.specs.declared.Stage.{Stage}
 use Rattle.recovery.specs.Log.{updatesFrom}
-use Rattle.recovery.specs.Walking.{Walk, walkOf, stageRefused, stageClosed, refusedAt, commitFits, Commits}
+use Rattle.recovery.specs.Walking.{walkOf, stageRefused, stageClosed, refusedAt, commitFits, Commits}
 use Rattle.recovery.proofs.Changing.{commits-right}
 
 module _ (stage : Stage) (seats : List ℕ) (z : stage .refusal ≡ 0) where

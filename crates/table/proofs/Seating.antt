@@ -7,7 +7,7 @@ use Prim.Native.Nat.{ℕ, zero, suc, _+_, _-_, _*_, _/_, _%_, _≤_, _<_}
 use native.Mathlib.Numerals.{add-one}
 use native.Mathlib.Omega.{arith}
 use lib.Dec.{eqb, ltb, leb}
-use lib.ListN.{length, take, drop, getD, set, replicate, length-append, length-map, length-set, length-replicate, drop-of-length-le, List·getD-append, List·getD-map}
+use lib.ListN.{length, take, drop, getD, set, replicate, length-append, length-map, length-set, length-replicate, replicate-append-replicate, drop-of-length-le, List·getD-append, List·getD-map}
 use lib.Seq.{drop-cons, take-at, drop-at, set-at, take-suc, take-length, length-take-le, set-append-left}
 use borrow.Author.Tests.{eq-eqb, ne-eqb, eqb-true, eqb-false, leb-true, leb-false}
 use Rattle.area.specs.Part.{splice}
@@ -228,9 +228,6 @@ pub filled-more : (seats : List ℕ) (i : ℕ) (dirty : List Dirty) → i < leng
 filled-more seats i dirty h few f =
     (length-set dirty i (entryIn (getD seats i 0)) ∙ f .0, ap (λ (l : List Dirty). set l i (entryIn (getD seats i 0))) (f .1) ∙ at-seam)
   where
-    front : List Dirty
-    front = map entryIn (take i seats)
-
     long : length (map entryIn (take i seats)) ≡ i
     long = length-map (take i seats) entryIn ∙ length-take-le i seats (omega arith)
 
@@ -252,3 +249,22 @@ unfolding dirtyIn
 filled-end seats i dirty e f =
     f .1 ∙ ap (λ (n : ℕ). map entryIn (take n seats) ++ replicate (32 - n) free) e
     ∙ ap (λ (l : List ℕ). map entryIn l ++ replicate (32 - length seats) free) (take-length seats)
+
+-- ---- seats without a dirty page
+
+pub seated-empty : (full : Bool) (count : ℕ) (seats : List ℕ) → count ≤ 32 → seats ≡ replicate count 0
+    → seated full seats ≡ record { count = count; full = full; dirty = replicate 32 free }
+unfolding dirtyIn
+seated-empty full count seats h e =
+    ap (seated full) e
+    ∙ ap (λ (n : ℕ). record { count = n; full = full; dirty = map entryIn (replicate count 0) ++ replicate (32 - n) free }) (length-replicate count 0)
+    ∙ ap (λ (l : List Dirty). record { count = count; full = full; dirty = l })
+    (ap (λ (l : List Dirty). l ++ replicate (32 - count) free) (all-free count) ∙ replicate-append-replicate count (32 - count) free
+    ∙ ap (λ (n : ℕ). replicate n free) sum)
+  where
+    sum : count + (32 - count) ≡ 32
+    sum = omega arith
+
+    all-free : (n : ℕ) → map entryIn (replicate n 0) ≡ replicate n free
+    all-free zero = refl
+    all-free (suc n) = ap (λ (l : List Dirty). free ∷ l) (all-free n)

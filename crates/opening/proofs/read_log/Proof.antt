@@ -18,14 +18,17 @@ slice-aggregate-find c = sym (length-take-le _ _ (omega arith))
 
 find-requires : tie.Need-find-requires
 find-requires c κs =
-    let p = (c .before .before .before .before .before) .pre in
-    let n = length ((c .before .before .before .before .before) .args .log .now) / 512 in
+    let p = (c .before .before .before .before .before .before .before) .pre in
+    let n = length ((c .before .before .before .before .before .before .before) .args .log .now) / 512 in
     let zeros : List ℕ = replicate 1024 0 in
     let e : length (take n zeros) ≡ n = length-take-le n zeros (omega arith) in
-    (omega arith, omega arith, omega arith, p .3, p .4, p .5)
+    (omega arith, omega arith, omega arith, p .3, p .4, p .5, p .6)
 
 same-length : tie.Need-same-length
 same-length c = search needs
+
+same-length-2 : tie.Need-same-length-2
+same-length-2 c = search needs
 
 returns : tie.Need-returns
 returns c = search needs
@@ -33,4 +36,10 @@ returns c = search needs
 pub read-log-spec : {M : Type 1} → statement M
 read-log-spec =
     tie.close
-    (tie.spec array-borrow-prefix-sequences slice-aggregate-find find-requires same-length returns)
+    (tie.spec
+    array-borrow-prefix-sequences
+    slice-aggregate-find
+    find-requires
+    same-length
+    same-length-2
+    returns)

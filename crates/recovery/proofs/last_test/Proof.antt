@@ -5,7 +5,6 @@ use mathlib.Core.Bool.{true, false}
 use Rattle.recovery.specs.Walking.{walkOf}
 use Rattle.recovery.proofs.Changing.{fails, holds, tested-not, tested-by}
 use Rattle.recovery.proofs.Stages.{refuses-as}
-use native.Mathlib.Omega.{arith}
 use borrow.Author.Needs.{needs}
 use Rattle.recovery.proofs.last_test.Statement.{statement}
 use Rattle.recovery.proofs.last_test.Tie as tie

@@ -5,7 +5,6 @@ use Prim.Native.Nat.{ℕ, _+_, _-_}
 use lib.Dec.{leb}
 use Rattle.promises.specs.Sums.{firstGroups, smallest}
 use Rattle.table.specs.Seats.{dirtyIn}
-use native.Mathlib.Omega.{arith}
 use borrow.Author.Needs.{needs}
 use Rattle.recovery.proofs.span_fits.Statement.{statement}
 use Rattle.recovery.proofs.span_fits.Tie as tie

@@ -7,7 +7,6 @@ use Rattle.recovery.specs.declared.Stage.{Stage}
 use Rattle.recovery.specs.Walking.{walkOf}
 use Rattle.recovery.proofs.Changing.{cleans-wrong, cleans-right}
 use Rattle.recovery.proofs.Stages.{refuses-as}
-use native.Mathlib.Omega.{arith}
 use borrow.Author.Needs.{needs}
 use Rattle.recovery.proofs.walk_clean.Statement.{statement}
 use Rattle.recovery.proofs.walk_clean.Tie as tie

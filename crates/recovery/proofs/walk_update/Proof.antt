@@ -6,7 +6,6 @@ use Rattle.recovery.specs.declared.Stage.{Stage}
 use Rattle.recovery.specs.Walking.{walkOf}
 use Rattle.recovery.proofs.Changing.{fails, holds, updated-wrong, updated-first, updated-next}
 use Rattle.recovery.proofs.Stages.{refuses-as}
-use native.Mathlib.Omega.{arith}
 use borrow.Author.Needs.{needs}
 use Rattle.recovery.proofs.walk_update.Statement.{statement}
 use Rattle.recovery.proofs.walk_update.Tie as tie

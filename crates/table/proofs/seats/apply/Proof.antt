@@ -5,7 +5,6 @@ use mathlib.Core.Bool.{false}
 use Rattle.table.specs.Seats.{seated}
 use Rattle.table.proofs.Applying.{applies-full, applies-at}
 use Rattle.table.proofs.Seating.{all-in}
-use native.Mathlib.Omega.{arith}
 use borrow.Author.Needs.{needs}
 use Rattle.table.proofs.seats.apply.Statement.{statement}
 use Rattle.table.proofs.seats.apply.Tie as tie

@@ -1,7 +1,6 @@
 -- `table::seats::drop_page` meets its contract, by whether a frame holds the page.
 -- Assumes nothing.
 use Rattle.table.proofs.Seating.{seat-not-dropped, seat-dropped}
-use native.Mathlib.Omega.{arith}
 use borrow.Author.Needs.{needs}
 use Rattle.table.proofs.seats.drop_page.Statement.{statement}
 use Rattle.table.proofs.seats.drop_page.Tie as tie

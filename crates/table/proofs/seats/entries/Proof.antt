@@ -1,8 +1,7 @@
 -- `table::seats::entries` meets its contract: the seats from index i on are left to set.
 -- Assumes nothing.
-use Prim.Native.Nat.{_≤_, _-_, _+_}
-use mathlib.Core.Path.{_≡_}
-use lib.ListN.{length, drop, replicate}
+use Prim.Native.Nat.{_≤_, _-_}
+use lib.ListN.{length}
 use Rattle.table.proofs.Seating.{Filled, filled-start, filled-more, filled-end}
 use borrow.Author.Needs.{needs}
 use native.Mathlib.Omega.{arith}

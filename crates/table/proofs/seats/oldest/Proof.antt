@@ -1,7 +1,7 @@
 -- `table::seats::oldest` meets its contract: the lowest so far, and the first groups from index i on.
 -- Assumes nothing.
 use Prim.Native.Nat.{ℕ, _≤_, _-_, _+_}
-use mathlib.Core.Path.{_≡_, refl, sym, ap, _∙_}
+use mathlib.Core.Path.{_≡_, refl, ap, _∙_}
 use mathlib.Core.Logic.{⊎-elim}
 use lib.ListN.{length, drop}
 use Rattle.promises.specs.Sums.{firstGroups, smallest}
