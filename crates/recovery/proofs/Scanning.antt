@@ -5,7 +5,7 @@ use mathlib.Core.Bool.{Bool, true, false, _&&_}
 use mathlib.Core.List.{List, [], _∷_}
 use Prim.Native.Nat.{ℕ, suc, _+_, _-_, _*_, _/_, _%_, _≤_, _<_, max}
 use native.Mathlib.Omega.{arith}
-use native.Mathlib.Nat.{mod-lt}
+use native.Mathlib.Nat.{mod-lt, div-add-mod', mul-add-mod-self-right, mod-eq-of-lt, suc-mul}
 use native.Mathlib.Decide.{ℕ-discrete}
 use lib.ListN.{length, getD, set}
 use lib.Seq.{getD-set-same, getD-set-other}
@@ -20,6 +20,18 @@ use Rattle.promises.specs.Blocks.{Slot, slotIn, slotAt, slotsFrom}
 use Rattle.promises.specs.Newest.{sequenceIn, isUnused, newest, allUnused}
 use Rattle.recovery.specs.Log.{bytesOf, headerOf}
 use Rattle.recovery.specs.Slots.{sequenceOf, isEmpty, standing}
+
+-- ---- the slot after a slot
+
+pub slot-again : (s n : ℕ) → 0 < n → s % n + 1 ≡ n → (s + 1) % n ≡ 0
+slot-again s n h e =
+    let p : s + 1 ≡ suc (s / n) * n + 0 = omega (arith, div-add-mod' s n, suc-mul (s / n) n) in
+    ap (λ (x : ℕ). x % n) p ∙ mul-add-mod-self-right (suc (s / n)) n 0 ∙ mod-eq-of-lt h
+
+pub slot-next : (s n : ℕ) → s % n + 1 < n → (s + 1) % n ≡ s % n + 1
+slot-next s n h =
+    let p : s + 1 ≡ s / n * n + (s % n + 1) = omega (arith, div-add-mod' s n) in
+    ap (λ (x : ℕ). x % n) p ∙ mul-add-mod-self-right (s / n) n (s % n + 1) ∙ mod-eq-of-lt h
 
 -- ---- a slot lies in the log
 

@@ -10,6 +10,7 @@ ghost use Prim.Native.Nat.{ℕ, suc, _+_, _-_, _*_, _^_, _≤_, _<_, max};
 ghost use lib.ListN.{length};
 ghost use lib.Dec.{eqb, ltb, leb};
 ghost use Rattle.block.specs.Sizes.{blockSize, pageSize, sequenceEnd};
+ghost use Rattle.block.specs.Legal.{slotOf};
 ghost use Rattle.promises.specs.Areas.{pagesIn};
 ghost use Rattle.table.specs.Table.{Applies, AppliesAll};
 ghost use Rattle.table.specs.Seats.{seated};
@@ -98,19 +99,31 @@ pub fn judge_all(log: &[u8], pages: usize, sequences: &mut [u64]) -> Scan
     Scan { newest, unused }
 }
 
+// The slot that comes after a slot of so many: where a sequence goes to the one, the next goes to the other.
+fn slot_after(slot: usize, slots: usize) -> usize
+    requires { ⌜ (slot < slots) × (slots ≤ 1024) ⌝ }
+    ensures { λ r. ⌜ (r < slots) × ((s : ℕ) → slot ≡ slotOf slots s → r ≡ slotOf slots (s + 1)) ⌝ }
+{
+    if slot + 1 == slots {
+        return 0;
+    }
+    slot + 1
+}
+
 // The lowest of the sequences from first to last that is not in its slot; one more than last where all are.
 pub fn missing(sequences: &[u64], first: u64, last: u64) -> u64
     requires { ⌜ (0 < length (now sequences)) × (length (now sequences) ≤ 1024) × (first ≤ last) × (last < sequenceEnd) ⌝ }
     ensures { λ r. ⌜ Lowest (now (sequences .entry)) first last r ⌝ }
 {
-    let slots = sequences.len() as u64;
+    let slots = sequences.len();
     let mut s = first;
+    let mut slot = (first % slots as u64) as usize;
     while s <= last {
-        let i = (s % slots) as usize;
-        if sequences[i] != s {
+        if sequences[slot] != s {
             return s;
         }
         s += 1;
+        slot = slot_after(slot, slots);
     }
     s
 }
