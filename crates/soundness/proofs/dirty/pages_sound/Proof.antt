@@ -1,7 +1,6 @@
 -- `dirty::pages_sound` meets its contract.
 -- Assumes nothing.
-use mathlib.Core.Path.{sym}
-use lib.Seq.{length-take-le}
+use lib.ListN.{length-take}
 use borrow.Author.Needs.{needs}
 use native.Mathlib.Omega.{arith}
 use Rattle.soundness.proofs.dirty.pages_sound.Statement.{statement}
@@ -11,7 +10,7 @@ array-share-prefix-list : tie.Need-array-share-prefix-list
 array-share-prefix-list c = search needs
 
 slice-aggregate-all-distinct : tie.Need-slice-aggregate-all-distinct
-slice-aggregate-all-distinct c = sym (length-take-le _ _ (omega (arith, (c .before .before) .pre)))
+slice-aggregate-all-distinct c = let survey = c .before .before .args .survey in omega (arith, length-take (survey .count) (survey .list), c .before .before .pre)
 
 all-distinct-requires : tie.Need-all-distinct-requires
 all-distinct-requires c κs = search needs
@@ -20,7 +19,7 @@ array-share-prefix-list-2 : tie.Need-array-share-prefix-list-2
 array-share-prefix-list-2 c = search needs
 
 slice-aggregate-named : tie.Need-slice-aggregate-named
-slice-aggregate-named c = sym (length-take-le _ _ (omega (arith, (c .before .before .before .before) .pre)))
+slice-aggregate-named c = let survey = c .before .before .before .before .args .survey in omega (arith, length-take (survey .count) (survey .list), c .before .before .before .before .pre)
 
 named-requires : tie.Need-named-requires
 named-requires c κs = search needs
