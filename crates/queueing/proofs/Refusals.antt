@@ -2,7 +2,7 @@
 -- and an accepted one knows what its change needs.
 -- Assumes nothing.
 use mathlib.Core.Path.{_≡_, refl, sym, _∙_}
-use mathlib.Core.Bool.{Bool, true, false, _&&_}
+use mathlib.Core.Bool.{Bool, true, false, _&&_, and-assoc}
 use mathlib.Core.List.{List}
 use Prim.Native.Nat.{ℕ, _+_, _*_, _/_, _^_, _≤_, _<_}
 use native.Mathlib.Omega.{arith}
@@ -33,7 +33,6 @@ use Rattle.promises.proofs.Soundness.{Sound, sound-of}
 use Rattle.promises.proofs.Changes.{pick-zero, pick-other, groups-count}
 use Rattle.soundness.specs.declared.sums.Sums.{Sums}
 use Rattle.soundness.specs.Summed.{Summed}
-use Rattle.soundness.proofs.Scans.{and-assoc}
 use Rattle.soundness.proofs.Counts.{reserved-is}
 use Rattle.queueing.specs.Queueing.{describeNumber}
 

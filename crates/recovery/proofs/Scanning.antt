@@ -1,7 +1,7 @@
 -- The scan of the slots, slot by slot, and the search for a missing block.
 -- Assumes nothing.
 use mathlib.Core.Path.{_≡_, refl, sym, ap, _∙_, subst}
-use mathlib.Core.Bool.{Bool, true, false, _&&_}
+use mathlib.Core.Bool.{Bool, true, false, _&&_, and-true}
 use mathlib.Core.List.{List, [], _∷_}
 use Prim.Native.Nat.{ℕ, suc, _+_, _-_, _*_, _/_, _%_, _≤_, _<_, max}
 use native.Mathlib.Omega.{arith}
@@ -114,10 +114,6 @@ module _ (N P : ℕ) (log : List ℕ) (i n : ℕ) (h : n ≤ i) where
   pub unused-end : (before whole : Bool) → (before && allUnused (slotsFrom N P log i (n - i))) ≡ whole → before ≡ whole
   unfolding allUnused
   unused-end before whole e = sym (ap (λ (l : List Slot). before && allUnused l) none-left ∙ and-true before) ∙ e
-    where
-      and-true : (a : Bool) → (a && true) ≡ a
-      and-true true = refl
-      and-true false = refl
 
 -- one more sequence is noted
 pub noted-more : (N P : ℕ) (log sequences : List ℕ) (i found : ℕ) → i < length sequences → found ≡ sequenceIn (slotAt N P log i)

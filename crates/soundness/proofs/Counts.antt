@@ -101,17 +101,6 @@ addable s h g =
       stored-queued = stored-few (s .stored) (groupsOf s) (and-both (sizesLegal (groupsOf s)) (ofOldest (s .stored) (groupsOf s)) g .1);
     }
 
-pub sound-addable : (s : State) → length (s .groups) ≡ 32 → sound s ≡ true → Addable s
-sound-addable s long h =
-    let f : Sound s = sound-of s h in
-    record {
-      queued = omega (arith, f .queued);
-      reserved = f .reserved;
-      next = omega (arith, f .sequenceSum);
-      stored = omega (arith, f .ticket);
-      stored-queued = stored-few (s .stored) (groupsOf s) (f .stored);
-    }
-
 -- in a sound state the sums are within the sizes
 pub sums-small : (s : State) (t : Sums) → sound s ≡ true → Summed s t → Small s t
 sums-small s t h e =

@@ -1,18 +1,15 @@
 -- What a scan of the state's arrays tells at each turn: what is left to see, and how a definition over it goes on.
 -- Assumes nothing.
 use mathlib.Core.Path.{_≡_, refl, sym, ap, _∙_}
-use mathlib.Core.Bool.{Bool, true, false, not, _&&_}
+use mathlib.Core.Bool.{Bool, true, false, _&&_, and-true, and-assoc}
 use mathlib.Core.List.{List, [], _∷_, _++_, map, append-assoc, append-nil}
 use Prim.Native.Nat.{ℕ, zero, suc, _+_, _≤_, _<_, min}
 use native.Mathlib.Omega.{arith}
 use native.Mathlib.Numerals.{add-one}
-use lib.Dec.{eqb, leb, ltb}
+use lib.Dec.{eqb, leb}
 use lib.ListN.{length, take, drop, getD, set, length-map, drop-of-length-le}
 use lib.Seq.{drop-cons, getD-take, length-take-le, take-suc-set}
-use borrow.Author.Tests.{eqb-true, eqb-false, ltb-true, ltb-false, eq-eqb, ne-eqb, not-true}
-use Rattle.block.proofs.Tests.{by-cases}
-use Rattle.promises.proofs.Soundness.{and-both}
-use Rattle.promises.proofs.Changes.{smallest-le}
+use borrow.Author.Tests.{eq-eqb, ne-eqb}
 use Rattle.promises.specs.declared.Dirty.{Dirty}
 use Rattle.promises.specs.declared.Staged.{Staged}
 use Rattle.promises.specs.Contents.{total}
@@ -86,36 +83,6 @@ module _ (entries : List Dirty) (i low low′ own : ℕ) (h : i < length entries
   oldest-same none e =
       ap (λ (a : ℕ). smallest a (firstGroups (drop (i + 1) entries))) e ∙ sym (ap (smallest low) (firsts-same entries i h none)) ∙ so-far
 
--- the oldest so far, at a turn of the search
-module _ (entries : List Dirty) (i low : ℕ) (h : i < length entries) where
-  abbrev test : Bool
-  test = not (eqb (getD entries i free .first) 0) && ltb (getD entries i free .first) low
-
-  pub oldest-lower : test ≡ true → smallest (getD entries i free .first) (firstGroups (drop (i + 1) entries)) ≡ smallest low (firstGroups (drop i entries))
-  oldest-lower e =
-      let both = and-both (not (eqb (getD entries i free .first) 0)) (ltb (getD entries i free .first) low) e in
-      let some : getD entries i free .first ≡ 0 → ⊥ = eqb-false _ _ (not-true _ (both .0)) in
-      let less : getD entries i free .first < low = ltb-true _ _ (both .1) in
-      let same : getD entries i free .first ≡ min (getD entries i free .first) low = omega arith in
-      ap (λ (a : ℕ). smallest a (firstGroups (drop (i + 1) entries))) same
-      ∙ smallest-min low (getD entries i free .first) (firstGroups (drop (i + 1) entries))
-      ∙ sym (ap (smallest low) (firsts-more entries i h some))
-
-  pub lower-of : test ≡ true → getD entries i free .first < low
-  lower-of e = ltb-true _ _ (and-both (not (eqb (getD entries i free .first) 0)) (ltb (getD entries i free .first) low) e .1)
-
-  pub oldest-stays : test ≡ false → smallest low (firstGroups (drop (i + 1) entries)) ≡ smallest low (firstGroups (drop i entries))
-  oldest-stays e =
-      by-cases (eqb (getD entries i free .first) 0)
-      (λ t. sym (ap (smallest low) (firsts-same entries i h (eqb-true _ _ t))))
-      (λ t. let more : low ≤ getD entries i free .first = ltb-false _ _ (second t) in
-      let least = smallest-le low (firstGroups (drop (i + 1) entries)) in
-      let same : smallest low (firstGroups (drop (i + 1) entries)) ≡ min (getD entries i free .first) (smallest low (firstGroups (drop (i + 1) entries))) = omega arith in
-      same ∙ sym (ap (smallest low) (firsts-more entries i h (eqb-false _ _ t))))
-    where
-      second : eqb (getD entries i free .first) 0 ≡ false → ltb (getD entries i free .first) low ≡ false
-      second t = let u : (not (eqb (getD entries i free .first) 0) && ltb (getD entries i free .first) low) ≡ false = e in rw t at u
-
 -- ---- the queue
 
 -- what is stored is of the oldest group
@@ -144,14 +111,6 @@ module _ (pages frames next : ℕ) (entries : List Dirty) (i : ℕ) where
   pub entries-end : length entries ≤ i → entriesLegal pages frames next i (drop i entries) ≡ true
   unfolding entriesLegal
   entries-end h = rw (drop-of-length-le entries h)
-
-pub and-true : (a : Bool) → (a && true) ≡ a
-and-true true = refl
-and-true false = refl
-
-pub and-assoc : (a b c : Bool) → (a && b && c) ≡ (a && (b && c))
-and-assoc true b c = refl
-and-assoc false b c = refl
 
 module _ (pages frames next : ℕ) (entries : List Dirty) (i : ℕ) (legal legal′ whole : Bool) (h : i < length entries)
     (so-far : (legal && entriesLegal pages frames next i (drop i entries)) ≡ whole) where

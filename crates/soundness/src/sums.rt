@@ -1,11 +1,9 @@
 // The paper's sums over a state.
 ghost use mathlib.Core.Path.{_≡_};
-ghost use mathlib.Core.Bool.{true};
 ghost use Prim.Native.Nat.{_≤_};
-ghost use Rattle.promises.specs.Sound.{sound};
-ghost use Rattle.promises.specs.Sums.{smallest, firstGroups, dirtyCount, queuedUpdates, owedBlocks};
+ghost use Rattle.promises.specs.Sums.{queuedUpdates, owedBlocks};
 ghost use Rattle.soundness.specs.Tests.{fitting};
-ghost use Rattle.soundness.specs.Summed.{Addable, Summed, Small};
+ghost use Rattle.soundness.specs.Summed.{Addable, Summed};
 use crate::wide;
 use promises::State;
 
@@ -15,37 +13,6 @@ pub struct Sums {
     pub waiting: usize,
     pub dirty: usize,
     pub queued: usize,
-}
-
-// D: the count of dirty pages.
-pub fn dirty_pages(state: State) -> usize
-    ensures { λ r. ⌜ (r ≡ dirtyCount state) × (r ≤ 32) ⌝ }
-{
-    let mut count = 0;
-    let mut i = 0;
-    while i < 32 {
-        if state.dirty[i].first != 0 {
-            count += 1;
-        }
-        i += 1;
-    }
-    count
-}
-
-// The oldest of a start and of the first groups.
-pub fn oldest(state: State, own: u64) -> u64
-    ensures { λ r. ⌜ (r ≡ smallest own (firstGroups (state .dirty))) × (r ≤ own) ⌝ }
-{
-    let mut low = own;
-    let mut i = 0;
-    while i < 32 {
-        let first = state.dirty[i].first;
-        if (first != 0) & (first < low) {
-            low = first;
-        }
-        i += 1;
-    }
-    low
 }
 
 // V: the count of updates in queued transactions.
@@ -74,21 +41,6 @@ pub fn owed(state: State) -> usize
     state.reserved + 1
 }
 
-// The sums over a state whose numbers are in range.
-pub fn added_up(state: State) -> Sums
-    requires { ⌜ Addable state ⌝ }
-    ensures { λ r. ⌜ Summed state r ⌝ }
-{
-    let queued = queued_updates(state);
-    let low = oldest(state, state.next - state.stored as u64);
-    Sums {
-        held: (state.next - low) as usize,
-        waiting: queued + state.queued - state.stored,
-        dirty: dirty_pages(state),
-        queued,
-    }
-}
-
 // Whether the ticket is below the oldest group's start and the sums are within the sizes.
 pub fn fit(state: State, sums: Sums) -> bool
     requires { ⌜ Addable state × Summed state sums ⌝ }
@@ -104,12 +56,4 @@ pub fn fit(state: State, sums: Sums) -> bool
         & (slots <= state.slots)
         & (frames <= state.frames)
         & (sequences <= crate::SEQUENCE_END)
-}
-
-// The sums over a sound state.
-pub fn sum_up(state: State) -> Sums
-    requires { ⌜ sound state ≡ true ⌝ }
-    ensures { λ r. ⌜ Summed state r × Small state r ⌝ }
-{
-    added_up(state)
 }

@@ -1,7 +1,7 @@
 -- `checked` meets its contract: the tests together are soundness, and one pass over the frames gives their sums.
 -- Assumes nothing.
 use mathlib.Core.Path.{_≡_, sym, _∙_}
-use mathlib.Core.Bool.{true, false, _&&_}
+use mathlib.Core.Bool.{true, false, _&&_, and-true}
 use Prim.Native.Nat.{_+_, _-_}
 use lib.ListN.{length}
 use borrow.Author.Tests.{not-true, not-false}
@@ -12,7 +12,7 @@ use Rattle.promises.specs.Sound.{sizesLegal, ofOldest, sound}
 use Rattle.soundness.specs.declared.sums.Sums.{Sums}
 use Rattle.soundness.specs.Tests.{inRange, fitting, countsLegal, pagesLegal}
 use Rattle.soundness.specs.Summed.{Addable, Summed}
-use Rattle.soundness.proofs.Scans.{length-mapped, and-true}
+use Rattle.soundness.proofs.Scans.{length-mapped}
 use Rattle.soundness.proofs.Counts.{range-of, queued-range, addable, summed, stored-most, sums-small, counts-range, counts-groups, counts-fit}
 use Rattle.soundness.proofs.Decided.{counted, waiting-few, surveyed, none-waiting, unsound, decided}
 use borrow.Author.Needs.{needs}
