@@ -1,13 +1,13 @@
 -- The frame that is cleaned next: the least rank of all, and what soundness says of a frame's entry.
 -- Assumes nothing.
 use mathlib.Core.Path.{_≡_, refl, sym, ap, _∙_, subst}
-use mathlib.Core.Bool.{Bool, true, false, cond, not}
+use mathlib.Core.Bool.{Bool, true, false, cond, not, _&&_}
 use mathlib.Core.List.{List, [], _∷_}
 use Prim.Native.Nat.{ℕ, zero, suc, _+_, _-_, _*_, _^_, _≤_, _<_}
 use native.Mathlib.Omega.{arith}
 use lib.Dec.{eqb, ltb}
-use lib.ListN.{length, take, drop, getD}
-use lib.Seq.{getD-take, set-getD, length-take-le}
+use lib.ListN.{length, take, drop, getD, set}
+use lib.Seq.{getD-take, getD-set-same, getD-set-other, set-getD, drop-set-lt, length-take-le, lt-length-set}
 use borrow.Author.Tests.{eqb-true, eqb-false, eq-eqb, ne-eqb, ltb-true, not-true}
 use Rattle.area.proofs.Parts.{either}
 use Rattle.block.proofs.Tests.{never-both}
@@ -16,13 +16,14 @@ use Rattle.promises.specs.declared.Dirty.{Dirty}
 use Rattle.promises.specs.Areas.{pageAt}
 use Rattle.promises.specs.DirtyPages.{DirtyPage, at, lookUp}
 use Rattle.promises.specs.Contents.{unless, dirtyFrom}
-use Rattle.promises.specs.Sums.{firstGroups, dirtyCount}
+use Rattle.promises.specs.Sums.{firstGroups, smallest, dirtyCount}
 use Rattle.promises.specs.Sound.{member, allBelow, dirtyNumbers}
 use Rattle.promises.proofs.Soundness.{and-both, Sound}
 use Rattle.promises.proofs.Table.{lookUp-set}
 use Rattle.promises.proofs.History.Sees.{by-eq}
 use Rattle.table.specs.Search.{free, isOf, placeOf}
 use Rattle.table.proofs.Entries.{own-apart, place-true, none-held}
+use Rattle.table.proofs.Scans.{lower, not-lower}
 use Rattle.cleaning.specs.Cleans.{entryAt, rankOf, Named}
 
 -- ---- ranks
@@ -43,6 +44,43 @@ module _ (f : ℕ → ℕ) (best new i : ℕ) (least : (j : ℕ) → j < i → f
 
 pub least-first : (f : ℕ → ℕ) (j : ℕ) → j < 1 → f 0 ≤ f j
 least-first f j h = let e : j ≡ 0 = omega arith in omega (arith, ap f e)
+
+-- ---- a search for the oldest first group, one frame taken as free
+
+-- the test of one entry against the lowest so far
+module _ (low : ℕ) (ds : List Dirty) (frame i : ℕ) (h : i < length ds) where
+  long : i < length (set ds frame free)
+  long = lt-length-set ds frame free h
+
+  pub lower-but : (not (eqb i frame) && (not (eqb (getD ds i free .first) 0) && ltb (getD ds i free .first) low)) ≡ true
+      → smallest (getD ds i free .first) (firstGroups (drop (i + 1) (set ds frame free))) ≡ smallest low (firstGroups (drop i (set ds frame free)))
+  lower-but e =
+      let both = and-both (not (eqb i frame)) (not (eqb (getD ds i free .first) 0) && ltb (getD ds i free .first) low) e in
+      let same : getD ds i free ≡ getD (set ds frame free) i free = sym (getD-set-other ds frame i free free (eqb-false _ _ (not-true _ (both .0)))) in
+      ap (λ (d : Dirty). smallest (d .first) (firstGroups (drop (i + 1) (set ds frame free)))) same
+      ∙ lower low (set ds frame free) i long (subst (λ (d : Dirty). (not (eqb (d .first) 0) && ltb (d .first) low) ≡ true) same (both .1)) .0
+
+  pub not-lower-but : (not (eqb i frame) && (not (eqb (getD ds i free .first) 0) && ltb (getD ds i free .first) low)) ≡ false
+      → smallest low (firstGroups (drop (i + 1) (set ds frame free))) ≡ smallest low (firstGroups (drop i (set ds frame free)))
+  not-lower-but e = not-lower low (set ds frame free) i long (by-eq i frame own other)
+    where
+      Passed : Dirty → Type 0
+      Passed d = (not (eqb (d .first) 0) && ltb (d .first) low) ≡ false
+
+      own : i ≡ frame → Passed (getD (set ds frame free) i free)
+      own q = subst Passed (sym (ap (λ (j : ℕ). getD (set ds j free) i free) (sym q) ∙ getD-set-same ds i free free h)) refl
+
+      other : (i ≡ frame → ⊥) → Passed (getD (set ds frame free) i free)
+      other n = subst Passed (sym (getD-set-other ds frame i free free n)) (rw (ne-eqb i frame n) at e)
+
+smallest-none : (low : ℕ) (xs : List ℕ) → length xs ≡ 0 → smallest low xs ≡ low
+smallest-none low [] e = refl
+smallest-none low (x ∷ xs) e = absurd (omega arith)
+
+-- none is in use from count on
+pub lowest-but : (low count : ℕ) (ds : List Dirty) (frame : ℕ) → frame < count → length (firstGroups (drop count ds)) ≡ 0
+    → smallest low (firstGroups (drop count (set ds frame free))) ≡ low
+lowest-but low count ds frame h e = ap (λ (xs : List Dirty). smallest low (firstGroups xs)) (drop-set-lt count ds frame free h) ∙ smallest-none low (firstGroups (drop count ds)) e
 
 -- ---- one entry of those that soundness speaks of
 

@@ -5,7 +5,7 @@ use mathlib.Core.Bool.{true}
 use mathlib.Core.List.{List, []}
 use Prim.Native.Nat.{ℕ, _*_, _^_, _≤_, _<_}
 use native.Mathlib.Omega.{arith}
-use lib.ListN.{length}
+use lib.ListN.{length, drop}
 use Rattle.block.proofs.Tests.{tests}
 use Rattle.promises.specs.declared.State.{State}
 use Rattle.promises.specs.declared.Cleaning.{Cleaning}
@@ -14,9 +14,12 @@ use Rattle.promises.specs.Areas.{pageAt, firstHalf, secondHalf, withFirstHalf, 
 use Rattle.promises.specs.Blocks.{clean, stored}
 use Rattle.promises.specs.DirtyPages.{DirtyPage, at, lookUp, without}
 use Rattle.promises.specs.Contents.{contentsOf, dirtyOf}
-use Rattle.promises.specs.Sums.{dirtyCount, sequencesTaken}
+use Rattle.promises.specs.Sums.{firstGroups, dirtyCount, sequencesTaken}
 use Rattle.promises.specs.Sound.{sound, names, member, dirtyNumbers}
-use Rattle.promises.specs.CleanStep.{Takes, cleanStore, thirdRefusal, cleanRefusalOf, CleanSteps}
+use Rattle.promises.specs.declared.Answer.{Answer}
+use Rattle.promises.specs.declared.Answer.the-variants.{Refused, Done}
+use Rattle.promises.specs.Answers.{refusalIn}
+use Rattle.promises.specs.CleanStep.{Takes, cleanStore, thirdRefusal, cleanRefusalOf, CleanStep, CleanSteps}
 use Rattle.promises.proofs.Soundness.{Sound, sound-of, of-sound}
 use Rattle.promises.proofs.Changes.{cleaningTo, sound-cleaning}
 use Rattle.promises.proofs.Promised.{clean-accepts}
@@ -24,7 +27,9 @@ use Rattle.table.specs.Table.{Holds}
 use Rattle.table.proofs.Holding.{held-keep, sound-holds}
 use Rattle.stepping.specs.Tables.{tableWith, tableOf}
 use Rattle.stepping.proofs.Held.{held-named}
-use Rattle.cleaning.specs.Cleans.{entryAt, rankOf, TakesFrame, Named, Chosen, Fitting, Cleaned, doneWith}
+use Rattle.stepping.proofs.Refused.{numbered}
+use Rattle.cleaning.specs.declared.Change.{Change}
+use Rattle.cleaning.specs.Cleans.{entryAt, rankOf, TakesFrame, Named, Chosen, Fitting, changed, Cleaned, doneWith, Changes}
 use Rattle.cleaning.proofs.Decision.{Accepted, accepted, block-passed}
 use Rattle.cleaning.proofs.Choosing.{first-used, first-least, pages-small, frames-below, look-frame, look-least}
 use Rattle.cleaning.proofs.Storing.{sound-clean}
@@ -138,12 +143,13 @@ module _ (s : State) (log home frames : List ℕ) (accepts : cleanRefusalOf s lo
 
   -- what the clean block's store leans on
   pub third-ready : (named : ℕ) → s .cleaning ≡ Third named
-      → (frame < 32) × (s .frames ≤ 32) × (1 ≤ s .slots) × (s .slots ≤ 1024) × (length log ≡ s .slots * 512) × (s .next < 2 ^ 48)
+      → (frame < s .frames) × (s .frames ≤ 32) × (1 ≤ s .slots) × (s .slots ≤ 1024) × (length log ≡ s .slots * 512) × (s .next < 2 ^ 48) × (entryAt s frame .first ≡ 0 → ⊥)
+      × (length (firstGroups (drop (s .frames) (s .dirty))) ≡ 0)
   third-ready named e =
       let g = simp tests at (tests-passed .fit) in
       let n : sequencesTaken s ≡ 2 ^ 48 → ⊥ = third-passed named e .1 in
       let few = facts .frames .1 in
-      (omega (arith, chosen .below), few, omega (arith, facts .slots .0), facts .slots .1, omega arith, omega (arith, facts .sequenceSum, n))
+      (chosen .below, few, omega (arith, facts .slots .0), facts .slots .1, omega arith, omega (arith, facts .sequenceSum, n), chosen .used, facts .framesBelow)
 
   pub third-steps : (named : ℕ) (r : State) (log′ : List ℕ) → s .cleaning ≡ Third named → Cleaned s log frame r log′ → CleanSteps s log home frames (doneWith r) log′ home
   unfolding cleanStore
@@ -154,3 +160,17 @@ module _ (s : State) (log home frames : List ℕ) (accepts : cleanRefusalOf s lo
       (of-sound r (subst Sound (sym (m .stateIs)) (sound-clean s frames page entry (r .dirty) facts (p .0) (p .1) page-found held)))
       (m .logIs ∙ ap (λ (n : ℕ). stored (s .slots) log (s .next) (record { kind = clean page; keepFrom = n; ticket = s .ticket })) (held-keep (tableWith s (r .dirty)) frames (without page pages) held (s .next)))
       refl (λ staging. ap (λ (x : State). contentsOf x staging) (m .stateIs)) (held .looks)
+
+-- ---- THE WHOLE STEP: the answer with the refusal's number, and the change made to the state
+
+done-by : (answer : Answer) → refusalIn answer ≡ 0 → answer ≡ Done
+done-by (Refused refusal) e = absurd (omega (arith, numbered refusal))
+done-by Done e = refl
+
+pub answered : (s : State) (log home frames : List ℕ) (change : Change) (answer : Answer) (log′ home′ : List ℕ) → refusalIn answer ≡ cleanRefusalOf s log home frames
+    → Changes s log home frames change log′ home′ → CleanSteps s log home frames (record { state = changed s change; answer = answer }) log′ home′
+answered s log home frames change answer log′ home′ e m = record {
+  refusal = e;
+  refused = m .refused;
+  accepted = λ z. subst (λ (a : Answer). CleanStep s log home frames (record { state = changed s change; answer = a }) log′ home′) (sym (done-by answer (e ∙ z))) (m .accepted z .accepted z);
+}

@@ -1,11 +1,14 @@
 -- The three stores of a cleaning, from what the code hands to the store; and that the clean block leaves a sound state.
 -- Assumes nothing.
-use mathlib.Core.Path.{_≡_, refl, sym, ap, _∙_, subst}
-use mathlib.Core.Bool.{true}
+use mathlib.Core.Path.{_≡_, refl, sym, ap, _∙_}
+use mathlib.Core.Bool.{true, false}
 use mathlib.Core.List.{List, [], _++_}
-use Prim.Native.Nat.{ℕ, _+_, _-_, _*_, _^_, _≤_}
+use Prim.Native.Nat.{ℕ, _+_, _-_, _*_, _^_, _≤_, _<_}
 use native.Mathlib.Omega.{arith}
-use lib.ListN.{length}
+use lib.Dec.{eqb}
+use lib.ListN.{length, set}
+use lib.Seq.{set-getD}
+use borrow.Author.Tests.{eq-eqb, ne-eqb}
 use Rattle.area.specs.Part.{part, splice}
 use Rattle.area.proofs.Parts.{part-part}
 use Rattle.block.specs.Kind.{cleanBlock}
@@ -14,6 +17,7 @@ use Rattle.block.specs.Legal.{slotOf}
 use Rattle.block.specs.declared.Block.{Block}
 use Rattle.promises.specs.declared.State.{State}
 use Rattle.promises.specs.declared.Dirty.{Dirty}
+use Rattle.promises.specs.declared.Cleaning.{Cleaning}
 use Rattle.promises.specs.Areas.{pageAt, withSlot, firstHalf, secondHalf, withFirstHalf, withSecondHalf}
 use Rattle.promises.specs.Blocks.{written, stored}
 use Rattle.promises.specs.DirtyPages.{DirtyPage, at, lookUp, without}
@@ -24,12 +28,18 @@ use Rattle.promises.proofs.Soundness.{Sound}
 use Rattle.promises.proofs.SoundFacts.{length-dirty, keepFrom-dirty}
 use Rattle.promises.proofs.Changes.{below-more, held-is, smallest-le}
 use Rattle.promises.proofs.History.Whole.{without-less}
-use Rattle.table.specs.declared.Table.{Table}
-use Rattle.table.specs.Table.{Holds, Drops}
+use Rattle.table.specs.Search.{free, isOf}
+use Rattle.table.specs.Table.{Holds}
+use Rattle.table.proofs.Applying.{drops-of}
 use Rattle.table.proofs.Holding.{held-count, held-keep, Each, Below, each-without, held-below}
 use Rattle.stepping.specs.Tables.{tableWith, tableOf}
 use Rattle.stepping.proofs.Held.{each-below, each-oldest, oldest-each}
-use Rattle.cleaning.specs.Cleans.{entryAt, cleanDone, Cleaned}
+use Rattle.cleaning.specs.Cleans.{entryAt, stateWith, cleanDone, Cleaned}
+
+-- ---- a change that keeps every entry
+
+pub entry-kept : (s : State) (frame next : ℕ) (c : Cleaning) → stateWith s (set (s .dirty) frame (entryAt s frame)) next c ≡ stateWith s (s .dirty) next c
+entry-kept s frame next c = ap (λ (ds : List Dirty). stateWith s ds next c) (set-getD (s .dirty) frame free)
 
 -- ---- the halves
 
@@ -49,26 +59,23 @@ module _ (home frames out : List ℕ) (page frame to : ℕ) where
 
 -- ---- the clean block
 
-pub cleaned-by : (s r : State) (log log′ none : List ℕ) (frame page keep : ℕ) (start table : Table) (block : Block) → page ≡ entryAt s frame .page → start ≡ tableOf s
-    → Drops start page table → keep ≡ smallest (s .next) (firstGroups (table .dirty)) → block ≡ cleanBlock (s .next) keep page (s .ticket) → none ≡ []
-    → log′ ≡ withSlot log (slotOf (s .slots) (block .sequence)) (layout block none) → r ≡ cleanDone s (table .dirty) → Cleaned s log frame r log′
+-- of the frame that holds the page
+pub cleaned-by : (s : State) (log log′ none : List ℕ) (frame page keep : ℕ) (block : Block) → page ≡ entryAt s frame .page → frame < s .frames → s .frames ≤ length (s .dirty)
+    → (entryAt s frame .first ≡ 0 → ⊥) → keep ≡ smallest (s .next) (firstGroups (set (s .dirty) frame free)) → block ≡ cleanBlock (s .next) keep page (s .ticket) → none ≡ []
+    → log′ ≡ withSlot log (slotOf (s .slots) (block .sequence)) (layout block none) → Cleaned s log frame (cleanDone s (set (s .dirty) frame free)) log′
 unfolding written
-cleaned-by s r log log′ none frame page keep start table block p t d k b z l e =
-    let same : r .dirty ≡ table .dirty = ap (λ (x : State). x .dirty) e in
-    let count : table .count ≡ s .frames = d .countIs ∙ ap (λ (x : Table). x .count) t in
-    record {
-      stateIs = e ∙ ap (cleanDone s) (sym same);
-      logIs =
-          l ∙ ap (λ (x : Block). withSlot log (slotOf (s .slots) (x .sequence)) (layout x none)) b
-          ∙ ap (λ (x : List ℕ). withSlot log (slotOf (s .slots) (s .next)) (layout (cleanBlock (s .next) keep page (s .ticket)) x)) z
-          ∙ ap (λ (n : ℕ). withSlot log (slotOf (s .slots) (s .next)) (layout (cleanBlock (s .next) n page (s .ticket)) [])) (k ∙ ap (λ (ds : List Dirty). smallest (s .next) (firstGroups ds)) (sym same))
-          ∙ ap (λ (n : ℕ). withSlot log (slotOf (s .slots) (s .next)) (layout (cleanBlock (s .next) (smallest (s .next) (firstGroups (r .dirty))) n (s .ticket)) [])) p;
-      holds = λ frames entries h.
-          let held : Holds table frames (without (entryAt s frame .page) entries) =
-          subst (λ (n : ℕ). Holds table frames (without n entries)) p (d .holds frames entries (subst (λ (x : Table). Holds x frames entries) (sym t) h)) in
-          subst (λ (ds : List Dirty). Holds (tableWith s ds) frames (without (entryAt s frame .page) entries)) (sym same)
-          (record { looks = held .looks; tableDistinct = held .tableDistinct; entriesDistinct = held .entriesDistinct; within = rw count at (held .within) });
-    }
+cleaned-by s log log′ none frame page keep block p below long used k b z l = record {
+  stateIs = refl;
+  logIs =
+      l ∙ ap (λ (x : Block). withSlot log (slotOf (s .slots) (x .sequence)) (layout x none)) b
+      ∙ ap (λ (x : List ℕ). withSlot log (slotOf (s .slots) (s .next)) (layout (cleanBlock (s .next) keep page (s .ticket)) x)) z
+      ∙ ap (λ (n : ℕ). withSlot log (slotOf (s .slots) (s .next)) (layout (cleanBlock (s .next) n page (s .ticket)) [])) k
+      ∙ ap (λ (n : ℕ). withSlot log (slotOf (s .slots) (s .next)) (layout (cleanBlock (s .next) (smallest (s .next) (firstGroups (set (s .dirty) frame free))) n (s .ticket)) [])) p;
+  holds = drops-of (tableOf s) (entryAt s frame .page) long frame (held (ne-eqb _ _ used)) below .holds;
+}
+  where
+    held : eqb (entryAt s frame .first) 0 ≡ false → isOf (entryAt s frame .page) (entryAt s frame) ≡ true
+    held e = rw e (eq-eqb (entryAt s frame .page) (entryAt s frame .page) refl)
 
 -- ---- A CLEAN BLOCK LEAVES A SOUND STATE: a page less is dirty, and H grows by the block stored
 pub sound-clean : (s : State) (frames : List ℕ) (page : ℕ) (e : DirtyPage) (dirty : List Dirty) → Sound s → s .stored ≡ 0 → (sequencesTaken s ≡ 2 ^ 48 → ⊥)

@@ -5,7 +5,7 @@ use mathlib.Core.Path.{_≡_}
 use mathlib.Core.Bool.{cond}
 use mathlib.Core.List.{List}
 use lib.Dec.{eqb}
-use lib.ListN.{length, getD}
+use lib.ListN.{length, getD, set}
 use Rattle.promises.specs.declared.State.{State}
 use Rattle.promises.specs.declared.Dirty.{Dirty}
 use Rattle.promises.specs.declared.Cleaning.{Cleaning}
@@ -15,10 +15,12 @@ use Rattle.promises.specs.declared.Outcome.{Outcome}
 use Rattle.promises.specs.Blocks.{clean, stored}
 use Rattle.promises.specs.DirtyPages.{DirtyPage, without}
 use Rattle.promises.specs.Sums.{firstGroups, smallest}
+use Rattle.promises.specs.CleanStep.{cleanRefusalOf, CleanSteps}
 use Rattle.block.specs.Sizes.{pageSize}
 use Rattle.table.specs.Search.{free}
 use Rattle.table.specs.Table.{Holds}
 use Rattle.stepping.specs.Tables.{tableWith, tableOf}
+use Rattle.cleaning.specs.declared.Change.{Change}
 
 -- the entry of a frame
 abbrev pub entryAt : State → ℕ → Dirty
@@ -47,13 +49,13 @@ pub record Chosen (state : State) (frame : ℕ) : Type 0 where
   pub used : entryAt state frame .first ≡ 0 → ⊥
   pub takes : TakesFrame (state .cleaning) state frame
 
--- the state once a page's clean block is stored and these pages are dirty
-abbrev pub cleanDone : State → List Dirty → State
-cleanDone state dirty = record {
+-- the state with these dirty pages, this next sequence and this cleaning
+abbrev pub stateWith : State → List Dirty → ℕ → Cleaning → State
+stateWith state dirty next cleaning = record {
   pages = state .pages;
   slots = state .slots;
   frames = state .frames;
-  next = state .next + 1;
+  next = next;
   ticket = state .ticket;
   dirty = dirty;
   staged = state .staged;
@@ -62,8 +64,16 @@ cleanDone state dirty = record {
   stored = state .stored;
   reserved = state .reserved;
   described = state .described;
-  cleaning = Idle;
+  cleaning = cleaning;
 }
+
+-- the state once a page's clean block is stored and these pages are dirty
+abbrev pub cleanDone : State → List Dirty → State
+cleanDone state dirty = stateWith state dirty (state .next + 1) Idle
+
+-- the state with one entry, the next sequence and the cleaning as a step changes them
+abbrev pub changed : State → Change → State
+changed state change = stateWith state (set (state .dirty) (change .frame) (change .entry)) (change .next) (change .cleaning)
 
 -- what a half's store leans on: the page at home and the frame lie within the areas
 pub record Fitting (state : State) (home frames frame : ℕ) : Type 0 where
@@ -86,3 +96,9 @@ pub record Cleaned (state : State) (log : List ℕ) (frame : ℕ) (result : Stat
 -- an accepted Clean step's outcome
 abbrev pub doneWith : State → Outcome
 doneWith state = record { state = state; answer = Done }
+
+-- what Clean step changes: nothing where it is refused, else what one store leaves
+pub record Changes (state : State) (log home frames : List ℕ) (change : Change) (log′ home′ : List ℕ) : Type 0 where
+  pub frameFew : change .frame < 32
+  pub refused : (cleanRefusalOf state log home frames ≡ 0 → ⊥) → (changed state change ≡ state) × (log′ ≡ log) × (home′ ≡ home)
+  pub accepted : cleanRefusalOf state log home frames ≡ 0 → CleanSteps state log home frames (doneWith (changed state change)) log′ home′

@@ -1,4 +1,5 @@
--- A refused Log step or Clean step keeps its whole promise: it answers its refusal and leaves everything as it was.
+-- Every refusal has a number other than 0; and a refused Log step keeps its whole promise: it answers its refusal and leaves everything as
+-- it was.
 -- Assumes nothing.
 use mathlib.Core.Path.{_≡_, refl}
 use Prim.Native.Nat.{ℕ, _<_}
@@ -19,11 +20,9 @@ use Rattle.promises.specs.declared.Refusal.the-variants.{
   NothingToDo,
   HeldBack,
 }
-use Rattle.promises.specs.declared.Answer.the-variants.{Refused}
 use Rattle.promises.specs.declared.Logged.the-variants.{Refused as LogRefused}
 use Rattle.promises.specs.Answers.{numberOf}
 use Rattle.promises.specs.LogStep.{logRefusalOf, LogSteps}
-use Rattle.promises.specs.CleanStep.{cleanRefusalOf, CleanSteps}
 
 -- every refusal has a number
 pub numbered : (refusal : Refusal) → 0 < numberOf refusal
@@ -50,7 +49,3 @@ log-refused s log home frames staging refusal e = record {
   updates = λ z g q h l. refuses refusal _ e z;
   commits = λ z g q h l. refuses refusal _ e z;
 }
-
-pub clean-refused : (s : State) (log home frames : List ℕ) (refusal : Refusal) → numberOf refusal ≡ cleanRefusalOf s log home frames
-    → CleanSteps s log home frames (record { state = s; answer = Refused refusal }) log home
-clean-refused s log home frames refusal e = record { refusal = e; refused = λ n. (refl, refl, refl); accepted = λ z. refuses refusal _ e z }

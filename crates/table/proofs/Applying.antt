@@ -340,16 +340,10 @@ module _ (t : Table) (page : ℕ) (few : t .count ≤ length (t .dirty)) where
           gone : lookUp page es ≡ absent
           gone = sym (h .looks page) ∙ lookUp-none page frames 0 (t .dirty) (none-held page (t .count) (t .dirty) few (omega arith) (h .within))
 
-  -- its frame is free then
-  pub drops-at : (i : ℕ) → i ≡ placeOf (isOf page) (entriesOf t) → i < t .count → Drops t page (withDirty t (set (t .dirty) i free))
-  drops-at i e l = record { countIs = refl; fullIs = refl; holds = holds }
+  -- a frame that holds it is free then
+  pub drops-of : (i : ℕ) → isOf page (getD (t .dirty) i free) ≡ true → i < t .count → Drops t page (withDirty t (set (t .dirty) i free))
+  drops-of i of l = record { countIs = refl; fullIs = refl; holds = holds }
     where
-      of : isOf page (getD (t .dirty) i free) ≡ true
-      of =
-          ap (isOf page) (sym (getD-take (t .count) (t .dirty) i free l))
-          ∙ subst (λ (j : ℕ). isOf page (getD (entriesOf t) j free) ≡ true) (sym e)
-          (place-true (isOf page) (entriesOf t) (omega (arith, length-take-le (t .count) (t .dirty) few)))
-
       holds : (frames : List ℕ) (es : List DirtyPage) → Holds t frames es → Holds (withDirty t (set (t .dirty) i free)) frames (without page es)
       holds frames es h = record {
         looks = looks;
@@ -368,6 +362,15 @@ module _ (t : Table) (page : ℕ) (few : t .count ≤ length (t .dirty)) where
               ∙ lookUp-without p page (dirtyFrom frames 0 (t .dirty))
               ∙ ap (λ (x : Found). cond (eqb p page) absent x) (h .looks p)
               ∙ sym (lookUp-without p page es)
+
+  -- and so is the one that the search finds
+  pub drops-at : (i : ℕ) → i ≡ placeOf (isOf page) (entriesOf t) → i < t .count → Drops t page (withDirty t (set (t .dirty) i free))
+  drops-at i e l =
+      drops-of i
+      (ap (isOf page) (sym (getD-take (t .count) (t .dirty) i free l))
+      ∙ subst (λ (j : ℕ). isOf page (getD (entriesOf t) j free) ≡ true) (sym e)
+      (place-true (isOf page) (entriesOf t) (omega (arith, length-take-le (t .count) (t .dirty) few))))
+      l
 
 -- ---- a group, update by update
 

@@ -8,7 +8,6 @@ use Rattle.promises.specs.Sums.{sequencesTaken}
 use Rattle.promises.proofs.Soundness.{Sound, sound-of}
 use Rattle.cleaning.proofs.Decision.{block-by}
 use native.Mathlib.Omega.{arith}
-use borrow.Author.Needs.{needs}
 use Rattle.cleaning.proofs.block_refusal.Statement.{statement}
 use Rattle.cleaning.proofs.block_refusal.Tie as tie
 
@@ -40,5 +39,4 @@ returns-3 c =
 
 pub block-refusal-spec : {M : Type 1} → statement M
 block-refusal-spec =
-    tie.close
-    (tie.spec returns owed-requires add-if2 add-if2-2 returns-2 returns-3)
+    tie.close (tie.spec returns owed-requires add-if2 add-if2-2 returns-2 returns-3)

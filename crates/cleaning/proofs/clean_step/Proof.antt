@@ -1,29 +1,35 @@
--- `cleaning::clean_step` meets its contract, Clean step's promise.
+-- `cleaning::clean_step` meets its contract, Clean step's promise: the change is made in one place, and the answer has the number.
 -- Assumes nothing.
-use mathlib.Core.Path.{sym, ap, _∙_}
-use Rattle.promises.specs.Answers.{refusalIn}
-use Rattle.stepping.proofs.Refused.{clean-refused}
+use Prim.Native.Nat.{ℕ}
+use mathlib.Core.Path.{_≡_, sym, _∙_, subst}
+use lib.ListN.{length}
+use Rattle.cleaning.proofs.Decision.{other-number}
+use Rattle.cleaning.proofs.Stepped.{answered}
 use borrow.Author.Needs.{needs}
+use native.Mathlib.Omega.{arith}
 use Rattle.cleaning.proofs.clean_step.Statement.{statement}
 use Rattle.cleaning.proofs.clean_step.Tie as tie
 
+checked-requires : tie.Need-checked-requires
+checked-requires c κs = search needs
+
 clean-refusal-requires : tie.Need-clean-refusal-requires
-clean-refusal-requires c κs = search needs
+clean-refusal-requires c κs = (c .before) .checked .ensures
 
-enum-known-decision : tie.Need-enum-known-decision
-enum-known-decision c = search needs
+clean-change-requires : tie.Need-clean-change-requires
+clean-change-requires c κs = (c .before .before) .clean-refusal .ensures
 
-enum-told : tie.Need-enum-told
-enum-told c = search needs
+mul-dirty : tie.Need-mul-dirty
+mul-dirty c = let h = (c .before .before .before .before .before .before) .clean-change .ensures .frameFew in omega arith
 
-clean-store-requires : tie.Need-clean-store-requires
-clean-store-requires c κs = sym ((c .before .before .before .before) .clean-refusal .ensures) ∙ ap refusalIn ((c .before .before) .enum-told .given .1)
+array-set-from-dirty : tie.Need-array-set-from-dirty
+array-set-from-dirty c = let h = (c .before .before .before .before .before .before) .clean-change .ensures .frameFew in omega arith
 
-returns : tie.Need-returns
-returns c =
-    let a = (c .before .before .before .before .before .before .before) .args in
-    clean-refused (a .state) (a .log .now) (a .home .now) (a .frames .now) _
-    (sym (ap refusalIn ((c .before) .decision .given .1)) ∙ (c .before .before .before) .clean-refusal .ensures)
+answer-of-requires : tie.Need-answer-of-requires
+answer-of-requires c κs =
+    let a = (c .before .before .before .before .before .before .before .before .before .before .before .before .before .before .before .before .before) .args in
+    subst (λ (n : ℕ). (n ≡ 0 → ⊥) → (n ≡ 1 → ⊥) → (n ≡ 2 → ⊥) → (n ≡ 6 → ⊥) → (n ≡ 10 → ⊥) → n ≡ 11) (sym ((c .before .before .before .before .before .before .before .before .before .before .before) .clean-refusal .ensures))
+    (other-number (a .state) (length (a .log .now)) (length (a .home .now)) (length (a .frames .now)))
 
 same-length : tie.Need-same-length
 same-length c = search needs
@@ -31,18 +37,21 @@ same-length c = search needs
 same-length-2 : tie.Need-same-length-2
 same-length-2 c = search needs
 
-returns-2 : tie.Need-returns-2
-returns-2 c = search needs
+returns : tie.Need-returns
+returns c =
+    let a = (c .before .before .before .before .before .before .before .before .before .before .before .before .before .before .before .before .before .before) .args in
+    answered (a .state) (a .log .now) (a .home .now) (a .frames .now) _ _ _ _ (c .answer-of .ensures ∙ (c .before .before .before .before .before .before .before .before .before .before .before .before) .clean-refusal .ensures) ((c .before .before .before .before .before .before .before .before .before) .clean-change .ensures)
 
 pub clean-step-spec : {M : Type 1} → statement M
 clean-step-spec =
     tie.close
     (tie.spec
+    checked-requires
     clean-refusal-requires
-    enum-known-decision
-    enum-told
-    clean-store-requires
-    returns
+    clean-change-requires
+    mul-dirty
+    array-set-from-dirty
+    answer-of-requires
     same-length
     same-length-2
-    returns-2)
+    returns)

@@ -1,12 +1,16 @@
--- `cleaning::store_clean` meets its contract: the page is dropped, and its clean block is in its slot.
+-- `cleaning::store_clean` meets its contract: the frame is free then, and the page's clean block is in its slot.
 -- Assumes nothing.
-use mathlib.Core.Path.{refl, ap}
-use Rattle.table.specs.declared.Table.{Table}
+use mathlib.Core.Path.{_≡_, refl}
+use lib.ListN.{length}
+use Rattle.table.proofs.Scans.{length-mapped}
 use Rattle.cleaning.proofs.Storing.{cleaned-by}
 use native.Mathlib.Omega.{arith}
 use borrow.Author.Needs.{needs}
 use Rattle.cleaning.proofs.store_clean.Statement.{statement}
 use Rattle.cleaning.proofs.store_clean.Tie as tie
+
+long-at : (c : tie.Start) → length (c .args .t1 .dirty) ≡ 32
+long-at c = search (needs, length-mapped)
 
 mul-entry : tie.Need-mul-entry
 mul-entry c = search needs
@@ -17,14 +21,8 @@ element-copy-out-entry c = search needs
 wide-requires : tie.Need-wide-requires
 wide-requires c κs = search needs
 
-table-of-requires : tie.Need-table-of-requires
-table-of-requires c κs = search needs
-
-drop-page-requires : tie.Need-drop-page-requires
-drop-page-requires c κs = omega (arith, ap (λ (t : Table). t .count) (c .table-of .ensures))
-
-oldest-requires : tie.Need-oldest-requires
-oldest-requires c κs = search needs
+oldest-but-requires : tie.Need-oldest-but-requires
+oldest-but-requires c κs = search needs
 
 clean-requires : tie.Need-clean-requires
 clean-requires c κs = search needs
@@ -35,18 +33,19 @@ slice-aggregate-store c = search needs
 store-requires : tie.Need-store-requires
 store-requires c κs = search needs
 
-cleaned-requires : tie.Need-cleaned-requires
-cleaned-requires c κs = search needs
+add-t15 : tie.Need-add-t15
+add-t15 c = search needs
 
 same-length : tie.Need-same-length
 same-length c = search needs
 
 returns : tie.Need-returns
 returns c =
-    let a = (c .before .before .before .before .before .before .before .before .before .before .before .before .before .before .before) .args in
-    cleaned-by (a .t1) _ (a .log .now) _ _ (a .frame) _ _ _ _ _ ((c .before .before .before .before .before .before .before .before .before .before .before) .wide .ensures) ((c .before .before .before .before .before .before .before .before .before .before) .table-of .ensures)
-    ((c .before .before .before .before .before .before .before .before .before) .drop-page .ensures) ((c .before .before .before .before .before .before .before .before) .oldest .ensures .0) ((c .before .before .before .before .before .before .before) .clean .ensures) refl
-    ((c .before .before .before .before) .store .ensures) (c .cleaned .ensures)
+    let a = (c .before .before .before .before .before .before .before .before .before .before .before) .args in (
+      refl,
+      cleaned-by (a .t1) (a .log .now) _ _ (a .frame) _ _ _ ((c .before .before .before .before .before .before .before) .wide .ensures) ((c .before .before .before .before .before .before .before .before .before .before .before) .pre .0) (omega (arith, long-at (c .before .before .before .before .before .before .before .before .before .before .before), (c .before .before .before .before .before .before .before .before .before .before .before) .pre .1)) ((c .before .before .before .before .before .before .before .before .before .before .before) .pre .6)
+          ((c .before .before .before .before .before .before) .oldest-but .ensures) ((c .before .before .before .before .before) .clean .ensures) refl ((c .before .before) .store .ensures),
+    )
 
 pub store-clean-spec : {M : Type 1} → statement M
 store-clean-spec =
@@ -55,12 +54,10 @@ store-clean-spec =
     mul-entry
     element-copy-out-entry
     wide-requires
-    table-of-requires
-    drop-page-requires
-    oldest-requires
+    oldest-but-requires
     clean-requires
     slice-aggregate-store
     store-requires
-    cleaned-requires
+    add-t15
     same-length
     returns)

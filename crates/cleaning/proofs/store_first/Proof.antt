@@ -1,9 +1,9 @@
--- `cleaning::store_first` meets its contract: the first half of the frame goes to the first half of the page.
+-- `cleaning::store_first` meets its contract: the first half of the frame goes to the first half of the page, and the entry stays.
 -- Assumes nothing.
-use mathlib.Core.Path.{ap}
+use mathlib.Core.Path.{refl, ap}
 use Prim.Native.Nat.{ℕ, _*_}
 use Rattle.cleaning.specs.Cleans.{entryAt}
-use Rattle.cleaning.proofs.Storing.{first-half-stored}
+use Rattle.cleaning.proofs.Storing.{entry-kept, first-half-stored}
 use borrow.Author.Needs.{needs}
 use Rattle.cleaning.proofs.store_first.Statement.{statement}
 use Rattle.cleaning.proofs.store_first.Tie as tie
@@ -26,18 +26,16 @@ mul-from c = search needs
 store-half-requires : tie.Need-store-half-requires
 store-half-requires c κs = search needs
 
-cleaning-to-requires : tie.Need-cleaning-to-requires
-cleaning-to-requires c κs = search needs
-
 same-length : tie.Need-same-length
 same-length c = search needs
 
 returns : tie.Need-returns
 returns c =
-    let a = (c .before .before .before .before .before .before .before .before .before) .args in (
-      c .cleaning-to .ensures,
+    let a = (c .before .before .before .before .before .before .before .before) .args in (
+      refl,
+      entry-kept (a .t1) (a .frame) _ _,
       first-half-stored (a .home .now) (a .frames .now) _ (entryAt (a .t1) (a .frame) .page) (a .frame) _
-          (ap (λ (n : ℕ). n * 1024) ((c .before .before .before .before .before) .wide .ensures)) ((c .before .before .before) .store-half .ensures),
+          (ap (λ (n : ℕ). n * 1024) ((c .before .before .before .before) .wide .ensures)) ((c .before .before) .store-half .ensures),
     )
 
 pub store-first-spec : {M : Type 1} → statement M
@@ -50,6 +48,5 @@ store-first-spec =
     mul-to
     mul-from
     store-half-requires
-    cleaning-to-requires
     same-length
     returns)

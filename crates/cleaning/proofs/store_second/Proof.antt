@@ -1,9 +1,9 @@
--- `cleaning::store_second` meets its contract: the second half of the frame goes to the second half of the page.
+-- `cleaning::store_second` meets its contract: the second half of the frame goes to the second half of the page, and the entry stays.
 -- Assumes nothing.
-use mathlib.Core.Path.{ap}
+use mathlib.Core.Path.{refl, ap}
 use Prim.Native.Nat.{ℕ, _+_, _*_}
 use Rattle.cleaning.specs.Cleans.{entryAt}
-use Rattle.cleaning.proofs.Storing.{second-half-stored}
+use Rattle.cleaning.proofs.Storing.{entry-kept, second-half-stored}
 use borrow.Author.Needs.{needs}
 use Rattle.cleaning.proofs.store_second.Statement.{statement}
 use Rattle.cleaning.proofs.store_second.Tie as tie
@@ -32,18 +32,16 @@ add-from c = search needs
 store-half-requires : tie.Need-store-half-requires
 store-half-requires c κs = search needs
 
-cleaning-to-requires : tie.Need-cleaning-to-requires
-cleaning-to-requires c κs = search needs
-
 same-length : tie.Need-same-length
 same-length c = search needs
 
 returns : tie.Need-returns
 returns c =
-    let a = (c .before .before .before .before .before .before .before .before .before) .args in (
-      c .cleaning-to .ensures,
+    let a = (c .before .before .before .before .before .before .before .before) .args in (
+      refl,
+      entry-kept (a .t1) (a .frame) _ _,
       second-half-stored (a .home .now) (a .frames .now) _ (entryAt (a .t1) (a .frame) .page) (a .frame) _
-          (ap (λ (n : ℕ). n * 1024 + 512) ((c .before .before .before .before .before) .wide .ensures)) ((c .before .before .before) .store-half .ensures),
+          (ap (λ (n : ℕ). n * 1024 + 512) ((c .before .before .before .before) .wide .ensures)) ((c .before .before) .store-half .ensures),
     )
 
 pub store-second-spec : {M : Type 1} → statement M
@@ -58,6 +56,5 @@ store-second-spec =
     mul-from
     add-from
     store-half-requires
-    cleaning-to-requires
     same-length
     returns)
