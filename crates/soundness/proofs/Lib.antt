@@ -3,3 +3,4 @@ pub mod Marks
 pub mod Counts
 pub mod Entries
 pub mod Decided
+pub mod Whole

@@ -1,2 +1,3 @@
 pub mod Tests
 pub mod Summed
+pub mod Parts

@@ -10,6 +10,10 @@ ghost use mathlib.Core.Bool.{true, false};
 ghost use Rattle.promises.specs.Sound.{sound};
 ghost use Rattle.soundness.specs.Tests.{inRange};
 ghost use Rattle.soundness.specs.Summed.{Summed, Small};
+ghost use Rattle.soundness.specs.Parts.{figuresOf, stateOf, Judges};
+use promises::Cleaning;
+use promises::Dirty;
+use promises::Staged;
 use promises::State;
 use sums::Sums;
 
@@ -93,6 +97,67 @@ pub fn checked(state: State) -> Verdict
         sound: pages & waiting,
         sums,
     }
+}
+
+// A state's single numbers: all of it but its three arrays.
+pub struct Figures {
+    pub pages: usize,
+    pub slots: usize,
+    pub frames: usize,
+    pub next: u64,
+    pub ticket: u64,
+    pub queued: usize,
+    pub stored: usize,
+    pub reserved: usize,
+    pub described: usize,
+    pub cleaning: Cleaning,
+}
+
+// The single numbers of a state.
+pub fn figures_of(state: State) -> Figures
+    ensures { λ r. ⌜ r ≡ figuresOf state ⌝ }
+{
+    let cleaning = state.cleaning;
+    Figures {
+        pages: state.pages,
+        slots: state.slots,
+        frames: state.frames,
+        next: state.next,
+        ticket: state.ticket,
+        queued: state.queued,
+        stored: state.stored,
+        reserved: state.reserved,
+        described: state.described,
+        cleaning,
+    }
+}
+
+// Whether the state with these parts is sound, and the sums over it where it is. A caller that takes its state apart for this call and
+// hands it back as one does not copy it whole.
+pub fn judged(
+    figures: Figures,
+    dirty: [Dirty; 32],
+    staged: [Staged; 32],
+    groups: [u8; 32],
+) -> Verdict
+    ensures { λ r. ⌜ Judges (stateOf figures dirty staged groups) r ⌝ }
+{
+    let cleaning = figures.cleaning;
+    checked(State {
+        pages: figures.pages,
+        slots: figures.slots,
+        frames: figures.frames,
+        next: figures.next,
+        ticket: figures.ticket,
+        dirty,
+        staged,
+        groups,
+        queued: figures.queued,
+        stored: figures.stored,
+        reserved: figures.reserved,
+        described: figures.described,
+        cleaning,
+    })
 }
 
 // Whether a state is sound.
