@@ -7,17 +7,19 @@ use Prim.Native.Nat.{ℕ, suc, _+_, _-_, _*_, _≤_, _<_}
 use native.Mathlib.Omega.{arith}
 use native.Mathlib.Numerals.{add-one}
 use lib.Dec.{eqb}
-use lib.ListN.{length, take, drop, getD}
+use lib.ListN.{length, take, drop, getD, set}
 use denote.Ref.{RefT, now}
 use Rattle.area.specs.Part.{part, splice}
 use Rattle.area.proofs.Parts.{from-to, part-all}
 use borrow.Author.Tests.{lt-ltb, le-ltb}
 use Rattle.block.proofs.Tests.{by-cases}
 use Rattle.promises.specs.declared.Dirty.{Dirty}
+use Rattle.promises.specs.declared.Staged.{Staged}
 use Rattle.promises.specs.Sums.{firstGroups}
 use Rattle.promises.specs.declared.State.{State}
 use Rattle.promises.specs.declared.Answer.the-variants.{Done}
 use Rattle.promises.specs.Areas.{withStaged}
+use Rattle.promises.specs.Contents.{total, groupsOf}
 use Rattle.promises.specs.Sound.{member, areasOf, stagedOf}
 use Rattle.promises.specs.Describe.{describeRefusal, Describes}
 use Rattle.promises.specs.Read.{Held, atHome, inFrame, heldIn, startOf, readRefusalOf, Reads}
@@ -86,15 +88,33 @@ module _ (s : State) (home frames : RefT (List ℕ)) (page number : ℕ) (is : n
 
 -- ---- Describe
 
--- an update in a free area, with its bytes copied there
-pub describe-done : (s : State) (page offset area start : ℕ) (bytes staging staging′ : List ℕ) (after : State) → length (s .staged) ≡ 32
+-- the state with an update more in a place
+abbrev pub addedAt : State → ℕ → Staged → State
+addedAt s place update = record {
+  pages = s .pages;
+  slots = s .slots;
+  frames = s .frames;
+  next = s .next;
+  ticket = s .ticket;
+  dirty = s .dirty;
+  staged = set (s .staged) place update;
+  groups = s .groups;
+  queued = s .queued;
+  stored = s .stored;
+  reserved = s .reserved;
+  described = s .described + 1;
+  cleaning = s .cleaning;
+}
+
+-- an update in a free area, in the place after those that wait, with its bytes copied there
+pub describe-done : (s : State) (page offset area start count : ℕ) (bytes staging staging′ : List ℕ) → length (s .staged) ≡ 32
     → describeRefusal s (length staging) page offset (length bytes) ≡ 0 → area < s .frames → member area (areasOf (stagedOf s)) ≡ false
-    → after ≡ added s (record { page = page; offset = offset; length = length bytes; area = area }) → start ≡ area
+    → count ≡ total (groupsOf s) + s .described → start ≡ area
     → staging′ ≡ splice staging (start * 472) (length bytes) (part bytes 0 (length bytes))
-    → Describes s (updateOf page offset bytes) staging (record { state = after; answer = Done }) staging′
-describe-done s page offset area start bytes staging staging′ after long e below free is at copied =
+    → Describes s (updateOf page offset bytes) staging (record { state = addedAt s count (record { page = page; offset = offset; length = length bytes; area = area }); answer = Done }) staging′
+describe-done s page offset area start count bytes staging staging′ long e below free is at copied =
     let stored : staging′ ≡ withStaged staging area (length bytes) bytes =
     copied ∙ ap (λ (l : List ℕ). splice staging (start * 472) (length bytes) l) (part-all bytes (length bytes) (omega arith)) ∙ ap (λ (n : ℕ). splice staging (n * 472) (length bytes) bytes) at in
-    subst (λ (t : State). Describes s (updateOf page offset bytes) staging (record { state = t; answer = Done }) staging′) (sym is)
+    subst (λ (n : ℕ). Describes s (updateOf page offset bytes) staging (record { state = addedAt s n (record { page = page; offset = offset; length = length bytes; area = area }); answer = Done }) staging′) (sym is)
     (subst (λ (l : List ℕ). Describes s (updateOf page offset bytes) staging (record { state = added s (record { page = page; offset = offset; length = length bytes; area = area }); answer = Done }) l) (sym stored)
     (describe-met s page offset area bytes staging long e below free))

@@ -6,16 +6,19 @@ ghost use lib.Dec.{leb};
 ghost use Rattle.block.specs.Sizes.{sequenceEnd};
 ghost use Rattle.promises.specs.Answers.{numberOf};
 ghost use Rattle.promises.specs.Sums.{waitingBlocks};
+ghost use Rattle.promises.specs.Sound.{sound};
 ghost use Rattle.promises.specs.Format.{formatRefusal};
 ghost use Rattle.promises.specs.Begin.{beginInRange, beginHasRoom, beginRefusal};
 ghost use Rattle.promises.specs.End.{endRefusal};
 ghost use Rattle.promises.specs.Settled.{settledRefusal};
 ghost use Rattle.promises.specs.Read.{readRefusal};
 ghost use Rattle.soundness.specs.Summed.{Summed, Small};
+ghost use Rattle.soundness.specs.Parts.{Judges};
 ghost use Rattle.queueing.specs.Queueing.{describeNumber};
 use block::Block;
 use promises::Refusal;
 use promises::State;
+use soundness::Verdict;
 use soundness::sums::Sums;
 
 // The refusal with a number.
@@ -77,11 +80,11 @@ fn begin_has_room(state: State, sums: Sums, u: usize) -> bool
     (slots <= state.slots) & (frames <= state.frames)
 }
 
-// Begin, of u: 2; 3; 4; 6; 5.
-pub fn begin_refusal(state: State, u: usize) -> u64
+// Begin, of the verdict on the state and of u: 2; 3; 4; 6; 5.
+pub fn begin_refusal(verdict: Verdict, state: State, u: usize) -> u64
+    requires { ⌜ Judges state verdict ⌝ }
     ensures { λ r. ⌜ (r ≡ beginRefusal state u) × (r ≤ 11) ⌝ }
 {
-    let verdict = soundness::checked(state);
     if !verdict.sound {
         return 2;
     }
@@ -134,11 +137,12 @@ pub fn describe_refusal(
     5
 }
 
-// End: 2; 4; 10.
-pub fn end_refusal(state: State) -> u64
+// End, of whether the state is sound: 2; 4; 10.
+pub fn end_refusal(holds: bool, state: State) -> u64
+    requires { ⌜ holds ≡ sound state ⌝ }
     ensures { λ r. ⌜ (r ≡ endRefusal state) × (r ≤ 11) ⌝ }
 {
-    if !soundness::sound(state) {
+    if !holds {
         return 2;
     }
     if state.reserved == 0 {
@@ -150,11 +154,12 @@ pub fn end_refusal(state: State) -> u64
     0
 }
 
-// Settled, of a ticket: 2; 3.
-pub fn settled_refusal(state: State, ticket: u64) -> u64
+// Settled, of whether the state is sound and of a ticket: 2; 3.
+pub fn settled_refusal(holds: bool, state: State, ticket: u64) -> u64
+    requires { ⌜ holds ≡ sound state ⌝ }
     ensures { λ r. ⌜ (r ≡ settledRefusal state ticket) × (r ≤ 11) ⌝ }
 {
-    if !soundness::sound(state) {
+    if !holds {
         return 2;
     }
     let last = state.ticket + state.queued as u64;
@@ -164,11 +169,12 @@ pub fn settled_refusal(state: State, ticket: u64) -> u64
     3
 }
 
-// Read, of the lengths of home and frames and of the page: 2; 1; 3.
-pub fn read_refusal(state: State, home: usize, frames: usize, page: usize) -> u64
+// Read, of whether the state is sound, of the lengths of home and frames and of the page: 2; 1; 3.
+pub fn read_refusal(holds: bool, state: State, home: usize, frames: usize, page: usize) -> u64
+    requires { ⌜ holds ≡ sound state ⌝ }
     ensures { λ r. ⌜ (r ≡ readRefusal state home frames page) × (r ≤ 11) ⌝ }
 {
-    if !soundness::sound(state) {
+    if !holds {
         return 2;
     }
     let right = (home == state.pages * Block::PAGE) & (frames == state.frames * Block::PAGE);

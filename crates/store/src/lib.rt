@@ -1,12 +1,19 @@
 // The page store: the nine calls of document 01, each with its one promise and no `requires`. A desk program lends log, home, frames and
-// staging, and keeps the state between calls. Everything behind these calls stands in the crates below.
+// staging, and keeps the state between calls. Each call judges the state, decides its refusal and changes nothing where it refuses; what
+// it decides with and what it stores stands in the crates below. A call takes its state apart and writes it anew once, at its end: a
+// state of 880 bytes that went through the functions below would be copied by each.
+use block::Block;
 use promises::Answer;
 use promises::EndOutcome;
+use promises::Ended;
 use promises::LogOutcome;
 use promises::OpenOutcome;
 use promises::Outcome;
+use promises::Staged;
 use promises::Standing;
 use promises::State;
+use queueing::deciding;
+use queueing::finding;
 ghost use denote.Ref.{now};
 ghost use Rattle.promises.specs.Format.{Formats};
 ghost use Rattle.promises.specs.Open.{Opens};
@@ -23,7 +30,13 @@ ghost use Rattle.queueing.specs.Queueing.{updateOf};
 pub fn format(log: &mut [u8]) -> Answer
     ensures { λ r. ⌜ Formats (now (log .entry)) r (now (log .exit)) ⌝ }
 {
-    queueing::format(log)
+    let number = deciding::format_refusal(log.len());
+    if number != 0 {
+        let refusal = deciding::refusal_of(number);
+        return Answer::Refused(refusal);
+    }
+    area::clear(log);
+    Answer::Done
 }
 
 // Recovers from the log: the state, its dirty pages in frames, and the last committed ticket as settled; or a refusal with its place.
@@ -37,7 +50,38 @@ pub fn open(log: &[u8], home: &[u8], frames: &mut [u8], staging: &[u8]) -> OpenO
 pub fn begin(state: State, u: usize) -> Outcome
     ensures { λ r. ⌜ Begins state u r ⌝ }
 {
-    queueing::begin(state, u)
+    let dirty = state.dirty;
+    let staged = state.staged;
+    let groups = state.groups;
+    let figures = soundness::figures_of(state);
+    let verdict = soundness::judged(figures, dirty, staged, groups);
+    let number = deciding::begin_refusal(verdict, state, u);
+    if number != 0 {
+        let refusal = deciding::refusal_of(number);
+        return Outcome {
+            state,
+            answer: Answer::Refused(refusal),
+        };
+    }
+    let cleaning = state.cleaning;
+    Outcome {
+        state: State {
+            pages: state.pages,
+            slots: state.slots,
+            frames: state.frames,
+            next: state.next,
+            ticket: state.ticket,
+            dirty,
+            staged,
+            groups,
+            queued: state.queued,
+            stored: state.stored,
+            reserved: u,
+            described: 0,
+            cleaning,
+        },
+        answer: Answer::Done,
+    }
 }
 
 // Describes the open transaction's next update: bytes for a page, from an offset on.
@@ -50,14 +94,102 @@ pub fn describe(
 ) -> Outcome
     ensures { λ r. ⌜ Describes state (updateOf page offset (now (bytes .entry))) (now (staging .entry)) r (now (staging .exit)) ⌝ }
 {
-    queueing::describe(state, staging, page, offset, bytes)
+    let dirty = state.dirty;
+    let waiting = state.staged;
+    let groups = state.groups;
+    let figures = soundness::figures_of(state);
+    let verdict = soundness::judged(figures, dirty, waiting, groups);
+    let number = deciding::describe_refusal(
+        verdict.sound,
+        state.frames,
+        state.reserved,
+        state.pages,
+        state.described,
+        staging.len(),
+        page,
+        offset,
+        bytes.len(),
+    );
+    if number != 0 {
+        let refusal = deciding::refusal_of(number);
+        return Outcome {
+            state,
+            answer: Answer::Refused(refusal),
+        };
+    }
+    let sums = verdict.sums;
+    let count = sums.queued + state.described;
+    let area = finding::free_area(waiting, count, state.frames);
+    let start = soundness::wide::byte(area) * Block::NEW_BYTES;
+    area::copy_part(staging, start, bytes, 0, bytes.len());
+    let mut staged = waiting;
+    staged[count] = Staged {
+        page: page as u16,
+        offset: offset as u16,
+        length: bytes.len() as u16,
+        area,
+    };
+    let cleaning = state.cleaning;
+    Outcome {
+        state: State {
+            pages: state.pages,
+            slots: state.slots,
+            frames: state.frames,
+            next: state.next,
+            ticket: state.ticket,
+            dirty,
+            staged,
+            groups,
+            queued: state.queued,
+            stored: state.stored,
+            reserved: state.reserved,
+            described: state.described + 1,
+            cleaning,
+        },
+        answer: Answer::Done,
+    }
 }
 
 // Ends the open transaction: it is queued and has its ticket.
 pub fn end(state: State) -> EndOutcome
     ensures { λ r. ⌜ Ends state r ⌝ }
 {
-    queueing::end(state)
+    let dirty = state.dirty;
+    let staged = state.staged;
+    let sizes = state.groups;
+    let figures = soundness::figures_of(state);
+    let verdict = soundness::judged(figures, dirty, staged, sizes);
+    let number = deciding::end_refusal(verdict.sound, state);
+    if number != 0 {
+        let refusal = deciding::refusal_of(number);
+        return EndOutcome {
+            state,
+            answer: Ended::Refused(refusal),
+        };
+    }
+    let queued = state.queued;
+    let ticket = state.ticket + queued as u64 + 1;
+    let mut groups = sizes;
+    groups[queued] = state.described as u8;
+    let cleaning = state.cleaning;
+    EndOutcome {
+        state: State {
+            pages: state.pages,
+            slots: state.slots,
+            frames: state.frames,
+            next: state.next,
+            ticket: state.ticket,
+            dirty,
+            staged,
+            groups,
+            queued: queued + 1,
+            stored: state.stored,
+            reserved: 0,
+            described: 0,
+            cleaning,
+        },
+        answer: Ended::Ticket(ticket),
+    }
 }
 
 // Stores one block of the oldest queued transaction; at its commit the transaction takes effect and is settled.
@@ -90,12 +222,41 @@ pub fn read<'a>(
 ) -> &'a [u8]
     ensures { λ r. ⌜ Reads state (home .entry) (frames .entry) page (now (refusal .exit)) r ⌝ }
 {
-    queueing::read(state, home, frames, page, refusal)
+    let dirty = state.dirty;
+    let staged = state.staged;
+    let groups = state.groups;
+    let figures = soundness::figures_of(state);
+    let verdict = soundness::judged(figures, dirty, staged, groups);
+    let number = deciding::read_refusal(verdict.sound, state, home.len(), frames.len(), page);
+    *refusal = number;
+    if number != 0 {
+        return &home[..0];
+    }
+    let frame = finding::frame_of(state, page as u16);
+    if frame < state.frames {
+        let start = frame * Block::PAGE;
+        return &frames[start..start + Block::PAGE];
+    }
+    let start = page * Block::PAGE;
+    &home[start..start + Block::PAGE]
 }
 
 // Whether a ticket is committed.
 pub fn settled(state: State, ticket: u64) -> Standing
     ensures { λ r. ⌜ Settles state ticket r ⌝ }
 {
-    queueing::settled(state, ticket)
+    let dirty = state.dirty;
+    let staged = state.staged;
+    let groups = state.groups;
+    let figures = soundness::figures_of(state);
+    let verdict = soundness::judged(figures, dirty, staged, groups);
+    let number = deciding::settled_refusal(verdict.sound, state, ticket);
+    if number != 0 {
+        let refusal = deciding::refusal_of(number);
+        return Standing::Refused(refusal);
+    }
+    if ticket <= state.ticket {
+        return Standing::Yes;
+    }
+    Standing::No
 }

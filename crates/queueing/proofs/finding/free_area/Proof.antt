@@ -1,4 +1,4 @@
--- `changing::free_area` meets its contract. The loop's invariant: fewer held areas are left from here on than areas.
+-- `finding::free_area` meets its contract. The loop's invariant: fewer held areas are left from here on than areas.
 -- Assumes nothing.
 use Prim.Native.Nat.{ℕ, _-_, _+_, _<_}
 use mathlib.Core.Path.{_≡_, sym, ap, _∙_}
@@ -10,8 +10,8 @@ use Rattle.promises.specs.Sound.{member}
 use Rattle.queueing.proofs.Areas.{above, above-length, above-held}
 use borrow.Author.Needs.{needs}
 use native.Mathlib.Omega.{arith}
-use Rattle.queueing.proofs.changing.free_area.Statement.{statement}
-use Rattle.queueing.proofs.changing.free_area.Tie as tie
+use Rattle.queueing.proofs.finding.free_area.Statement.{statement}
+use Rattle.queueing.proofs.finding.free_area.Tie as tie
 
 abbrev Inv-loop : tie.InvT-loop
 Inv-loop count frames list end area₀ area = above area (take count list) + area < end

@@ -1,10 +1,10 @@
 -- `format` meets its contract.
 -- Assumes nothing.
 use mathlib.Core.Path.{refl, sym, _∙_}
 use Rattle.queueing.proofs.Refusals.{format-refused}
 use borrow.Author.Needs.{needs}
-use Rattle.queueing.proofs.format.Statement.{statement}
-use Rattle.queueing.proofs.format.Tie as tie
+use Rattle.store.proofs.format.Statement.{statement}
+use Rattle.store.proofs.format.Tie as tie
 
 format-refusal-requires : tie.Need-format-refusal-requires
 format-refusal-requires c κs = search needs

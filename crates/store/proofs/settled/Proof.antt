@@ -1,0 +1,44 @@
+-- `settled` meets its contract.
+-- Assumes nothing.
+use mathlib.Core.Path.{sym, _∙_}
+use borrow.Author.Tests.{le-leb, lt-leb}
+use Rattle.soundness.proofs.Whole.{judged-whole}
+use Rattle.queueing.proofs.Refusals.{settled-refused}
+use borrow.Author.Needs.{needs}
+use Rattle.store.proofs.settled.Statement.{statement}
+use Rattle.store.proofs.settled.Tie as tie
+
+figures-of-requires : tie.Need-figures-of-requires
+figures-of-requires c κs = search needs
+
+judged-requires : tie.Need-judged-requires
+judged-requires c κs = search needs
+
+settled-refusal-requires : tie.Need-settled-refusal-requires
+settled-refusal-requires c κs = judged-whole ((c .before .before .before .before .before) .args .state) _ _ ((c .before) .figures-of .ensures) (c .judged .ensures) .0
+
+refusal-of-requires : tie.Need-refusal-of-requires
+refusal-of-requires c κs = search needs
+
+returns : tie.Need-returns
+returns c =
+    let args = (c .before .before .before .before .before .before .before .before) .args in
+    settled-refused (c .refusal-of .result) ((c .before .before) .settled-refusal .result) (c .refusal-of .ensures) ((c .before) .if1 .taken) (args .state) (args .ticket) ((c .before .before) .settled-refusal .ensures .0)
+
+returns-2 : tie.Need-returns-2
+returns-2 c = record { refusal = sym ((c .before .before) .if1 .left) ∙ (c .before .before .before) .settled-refusal .ensures .0; answerIs = λ z. simp (le-leb _ _ (c .if2 .taken)) }
+
+returns-3 : tie.Need-returns-3
+returns-3 c = record { refusal = sym ((c .before .before) .if1 .left) ∙ (c .before .before .before) .settled-refusal .ensures .0; answerIs = λ z. simp (lt-leb _ _ (c .if2 .left)) }
+
+pub settled-spec : {M : Type 1} → statement M
+settled-spec =
+    tie.close
+    (tie.spec
+    figures-of-requires
+    judged-requires
+    settled-refusal-requires
+    refusal-of-requires
+    returns
+    returns-2
+    returns-3)
