@@ -116,7 +116,7 @@ fn unsound() -> State {
 fn begins(state: State, u: usize) -> State {
     say(b"begin ");
     show(u as u64);
-    let outcome = queueing::begin(state, u);
+    let outcome = store::begin(state, u);
     let answer = outcome.answer;
     answered(answer);
     let after = outcome.state;
@@ -147,7 +147,7 @@ fn describes_in(
     show(offset as u64);
     say(b" length ");
     show(bytes.len() as u64);
-    let outcome = queueing::describe(state, staging, page, offset, bytes);
+    let outcome = store::describe(state, staging, page, offset, bytes);
     let answer = outcome.answer;
     answered(answer);
     let after = outcome.state;
@@ -156,7 +156,7 @@ fn describes_in(
 
 fn ends(state: State) -> State {
     say(b"end");
-    let outcome = queueing::end(state);
+    let outcome = store::end(state);
     let answer = outcome.answer;
     match answer {
         Ended::Refused(refusal) => refused(refusal),
@@ -173,7 +173,7 @@ fn ends(state: State) -> State {
 fn settles(state: State, ticket: u64) {
     say(b"settled ");
     show(ticket);
-    let standing = queueing::settled(state, ticket);
+    let standing = store::settled(state, ticket);
     match standing {
         Standing::Refused(refusal) => refused(refusal),
         Standing::Yes => say(b": yes\n"),
@@ -185,7 +185,7 @@ fn reads<'a>(state: State, home: &'a [u8], frames: &'a [u8], page: usize) {
     say(b"read ");
     show(page as u64);
     let mut refusal: u64 = 0;
-    let part = queueing::read(state, home, frames, page, &mut refusal);
+    let part = store::read(state, home, frames, page, &mut refusal);
     if refusal != 0 {
         say(b": refused ");
         show(refusal);
@@ -211,7 +211,7 @@ fn ends_of(part: &[u8]) {
 fn formats(log: &mut [u8]) {
     say(b"format ");
     show(log.len() as u64);
-    let answer = queueing::format(log);
+    let answer = store::format(log);
     answered(answer);
     say(b"log ");
     ends_of(log);

@@ -47,7 +47,7 @@ fn areas(
 fn format(desk: Desk, log: &mut [u8]) -> Desk {
     let lent = desk.lent;
     let count = first(log, lent.log);
-    let answer = queueing::format(&mut log[..count]);
+    let answer = store::format(&mut log[..count]);
     saying::answered(answer, b"ok\n");
     desk
 }
@@ -55,7 +55,7 @@ fn format(desk: Desk, log: &mut [u8]) -> Desk {
 // Begin.
 fn begin(desk: Desk, u: u64) -> Desk {
     let state = desk.state;
-    let outcome = queueing::begin(state, u as usize);
+    let outcome = store::begin(state, u as usize);
     let answer = outcome.answer;
     let after = outcome.state;
     saying::answered(answer, b"ok\n");
@@ -77,7 +77,7 @@ fn describe(
     let state = desk.state;
     let lent = desk.lent;
     let count = first(staging, lent.staging);
-    let outcome = queueing::describe(
+    let outcome = store::describe(
         state,
         &mut staging[..count],
         page as usize,
@@ -97,7 +97,7 @@ fn open(desk: Desk, log: &[u8], home: &[u8], frames: &mut [u8], staging: &[u8]) 
     let pages = first(home, lent.home);
     let held = first(frames, lent.frames);
     let staged = first(staging, lent.staging);
-    let outcome = opening::open(
+    let outcome = store::open(
         &log[..slots],
         &home[..pages],
         &mut frames[..held],
@@ -112,7 +112,7 @@ fn open(desk: Desk, log: &[u8], home: &[u8], frames: &mut [u8], staging: &[u8]) 
 // End.
 fn end(desk: Desk) -> Desk {
     let state = desk.state;
-    let outcome = queueing::end(state);
+    let outcome = store::end(state);
     let answer = outcome.answer;
     let after = outcome.state;
     saying::ended(answer);
@@ -127,7 +127,7 @@ fn log_step(desk: Desk, log: &mut [u8], home: &[u8], frames: &mut [u8], staging:
     let pages = first(home, lent.home);
     let held = first(frames, lent.frames);
     let staged = first(staging, lent.staging);
-    let outcome = logging::log_step(
+    let outcome = store::log_step(
         state,
         &mut log[..slots],
         &home[..pages],
@@ -147,7 +147,7 @@ fn clean_step(desk: Desk, log: &mut [u8], home: &mut [u8], frames: &[u8]) -> Des
     let slots = first(log, lent.log);
     let pages = first(home, lent.home);
     let held = first(frames, lent.frames);
-    let outcome = cleaning::clean_step(
+    let outcome = store::clean_step(
         state,
         &mut log[..slots],
         &mut home[..pages],
@@ -166,7 +166,7 @@ fn read<'a>(desk: Desk, home: &'a [u8], frames: &'a [u8], page: u64) -> Desk {
     let pages = first(home, lent.home);
     let held = first(frames, lent.frames);
     let mut refusal = 0;
-    let bytes = queueing::read(
+    let bytes = store::read(
         state,
         &home[..pages],
         &frames[..held],
@@ -184,7 +184,7 @@ fn read<'a>(desk: Desk, home: &'a [u8], frames: &'a [u8], page: u64) -> Desk {
 // Settled.
 fn settled(desk: Desk, ticket: u64) -> Desk {
     let state = desk.state;
-    saying::standing(queueing::settled(state, ticket));
+    saying::standing(store::settled(state, ticket));
     desk
 }
 

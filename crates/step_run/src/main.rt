@@ -148,7 +148,7 @@ fn logs(
     staging: &[u8],
     slot: usize,
 ) -> State {
-    let outcome = logging::log_step(state, log, home, frames, staging);
+    let outcome = store::log_step(state, log, home, frames, staging);
     let answer = outcome.answer;
     let after = outcome.state;
     match answer {
@@ -180,7 +180,7 @@ fn cleans(
     slot: usize,
     page: usize,
 ) -> State {
-    let outcome = cleaning::clean_step(state, log, home, frames);
+    let outcome = store::clean_step(state, log, home, frames);
     let answer = outcome.answer;
     let after = outcome.state;
     match answer {

@@ -145,19 +145,7 @@ fn opened(log: &[u8], home: &[u8], frames: &mut [u8], staging: &[u8]) -> Progres
     }
 }
 
-// Begin of two updates.
-fn begun(progress: Progress) -> Progress {
-    let state = progress.state;
-    let outcome = store::begin(state, 2);
-    let answer = outcome.answer;
-    let after = outcome.state;
-    Progress {
-        state: after,
-        digest: calling::answered(progress.digest, answer),
-    }
-}
-
-// Transactions of two updates, both pages cleaned at once.
+// Transactions of two updates, both pages cleaned at once: straight on, with a name for each call's outcome.
 pub fn commits(
     log: &mut [u8],
     home: &mut [u8],
@@ -166,7 +154,9 @@ pub fn commits(
     count: u64,
 ) -> u64 {
     let formatted = store::format(log);
-    let mut progress = opened(log, home, frames, staging);
+    let progress = opened(log, home, frames, staging);
+    let mut state = progress.state;
+    let mut digest = progress.digest;
     let mut x: u64 = 1;
     let mut i: u64 = 0;
     while i < count {
@@ -174,13 +164,74 @@ pub fn commits(
         let b = numbers::after(a);
         let c = numbers::after(b);
         x = numbers::after(c);
-        progress = begun(progress);
-        progress = committed(progress, log, home, frames, staging, i, drawn(a, b, c, x));
-        progress = cleaned(progress, log, home, frames);
-        progress = cleaned(progress, log, home, frames);
+        let places = drawn(a, b, c, x);
+        let begun = store::begin(state, 2);
+        let begun_answer = begun.answer;
+        let begun_state = begun.state;
+        let first = store::describe(
+            begun_state,
+            staging,
+            places.first_page,
+            places.first_offset,
+            &new_bytes(i, 1),
+        );
+        let first_answer = first.answer;
+        let first_state = first.state;
+        let second = store::describe(
+            first_state,
+            staging,
+            places.second_page,
+            places.second_offset,
+            &new_bytes(i, 2),
+        );
+        let second_answer = second.answer;
+        let second_state = second.state;
+        let ended = store::end(second_state);
+        let ended_answer = ended.answer;
+        let ended_state = ended.state;
+        let update = store::log_step(ended_state, log, home, frames, staging);
+        let update_answer = update.answer;
+        let update_state = update.state;
+        let update_2 = store::log_step(update_state, log, home, frames, staging);
+        let update_2_answer = update_2.answer;
+        let update_2_state = update_2.state;
+        let commit = store::log_step(update_2_state, log, home, frames, staging);
+        let commit_answer = commit.answer;
+        let commit_state = commit.state;
+        let half = store::clean_step(commit_state, log, home, frames);
+        let half_answer = half.answer;
+        let half_state = half.state;
+        let whole = store::clean_step(half_state, log, home, frames);
+        let whole_answer = whole.answer;
+        let whole_state = whole.state;
+        let clean = store::clean_step(whole_state, log, home, frames);
+        let clean_answer = clean.answer;
+        let clean_state = clean.state;
+        let half_2 = store::clean_step(clean_state, log, home, frames);
+        let half_2_answer = half_2.answer;
+        let half_2_state = half_2.state;
+        let whole_2 = store::clean_step(half_2_state, log, home, frames);
+        let whole_2_answer = whole_2.answer;
+        let whole_2_state = whole_2.state;
+        let clean_2 = store::clean_step(whole_2_state, log, home, frames);
+        let clean_2_answer = clean_2.answer;
+        state = clean_2.state;
+        digest = calling::answered(digest, begun_answer);
+        digest = calling::answered(digest, first_answer);
+        digest = calling::answered(digest, second_answer);
+        digest = calling::ended(digest, ended_answer);
+        digest = calling::logged(digest, update_answer);
+        digest = calling::logged(digest, update_2_answer);
+        digest = calling::logged(digest, commit_answer);
+        digest = calling::answered(digest, half_answer);
+        digest = calling::answered(digest, whole_answer);
+        digest = calling::answered(digest, clean_answer);
+        digest = calling::answered(digest, half_2_answer);
+        digest = calling::answered(digest, whole_2_answer);
+        digest = calling::answered(digest, clean_2_answer);
         i += 1;
     }
-    progress.digest
+    digest
 }
 
 // Begin of two updates: a page is cleaned while it is refused as full.
