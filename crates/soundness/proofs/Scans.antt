@@ -1,15 +1,15 @@
 -- What a scan of the state's arrays tells at each turn: what is left to see, and how a definition over it goes on.
 -- Assumes nothing.
 use mathlib.Core.Path.{_≡_, refl, sym, ap, _∙_}
-use mathlib.Core.Bool.{Bool, true, false, _&&_, and-true, and-assoc}
+use mathlib.Core.Bool.{Bool, true, _&&_, and-true, and-assoc}
 use mathlib.Core.List.{List, [], _∷_, _++_, map, append-assoc, append-nil}
-use Prim.Native.Nat.{ℕ, zero, suc, _+_, _≤_, _<_, min}
+use Prim.Native.Nat.{ℕ, zero, suc, _+_, _-_, _≤_, _<_, min}
 use native.Mathlib.Omega.{arith}
 use native.Mathlib.Numerals.{add-one}
-use lib.Dec.{eqb, leb}
+use lib.Dec.{leb}
 use lib.ListN.{length, take, drop, getD, set, length-map, drop-of-length-le}
 use lib.Seq.{drop-cons, getD-take, length-take-le, take-suc-set}
-use borrow.Author.Tests.{eq-eqb, ne-eqb}
+use borrow.Author.Tests.{lt-leb, eq-eqb, ne-eqb}
 use Rattle.promises.specs.declared.Dirty.{Dirty}
 use Rattle.promises.specs.declared.Staged.{Staged}
 use Rattle.promises.specs.Contents.{total}
@@ -31,6 +31,12 @@ module _ {A : Type 0} where
   rest-cons l n i d h k =
       let e : length (take n l) ≡ n = length-take-le n l k in
       rw (add-one, drop-cons (take n l) i d (omega arith), getD-take n l i d h)
+
+  -- one step towards the first element
+  pub rest-back : (l : List A) (n i : ℕ) (d : A) → 0 < i → i ≤ n → n ≤ length l → drop (i - 1) (take n l) ≡ getD l (i - 1) d ∷ drop i (take n l)
+  rest-back l n i d p h k =
+      let back : i - 1 + 1 ≡ i = omega arith in
+      rest-cons l n (i - 1) d (omega arith) k ∙ ap (λ (j : ℕ). getD l (i - 1) d ∷ drop j (take n l)) back
 
   pub rest-end : (l : List A) (n i : ℕ) → n ≤ i → n ≤ length l → drop i (take n l) ≡ []
   rest-end l n i h k =
@@ -85,15 +91,11 @@ module _ (entries : List Dirty) (i low low′ own : ℕ) (h : i < length entries
 
 -- ---- the queue
 
--- what is stored is of the oldest group
-pub oldest-none : (stored queued : ℕ) (groups : List ℕ) → queued ≡ 0 → eqb stored 0 ≡ ofOldest stored (take queued groups)
-oldest-none stored queued groups e = rw e
-
-pub oldest-some : (stored queued : ℕ) (groups : List ℕ) (size : ℕ) → (queued ≡ 0 → ⊥) → 0 < length groups → size ≡ getD groups 0 0
-    → leb stored size ≡ ofOldest stored (take queued groups)
-oldest-some stored zero groups size n h e = absurd (n refl)
-oldest-some stored (suc queued) [] size n h e = absurd (omega arith)
-oldest-some stored (suc queued) (x ∷ groups) size n h e = rw e
+-- no more is stored than the oldest group has, and nothing where no group is queued
+pub stored-oldest : (stored : ℕ) (sizes : List ℕ) → leb stored (getD sizes 0 0) ≡ ofOldest stored sizes
+stored-oldest zero [] = refl
+stored-oldest (suc stored) [] = lt-leb (suc stored) 0 (omega arith) ∙ sym (ne-eqb (suc stored) 0 (λ e. omega arith))
+stored-oldest stored (size ∷ sizes) = refl
 
 pub blocks-total : (sizes : List ℕ) → blockCount sizes ≡ total sizes + length sizes
 blocks-total [] = omega arith
