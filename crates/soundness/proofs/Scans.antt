@@ -14,7 +14,7 @@ use Rattle.promises.specs.declared.Dirty.{Dirty}
 use Rattle.promises.specs.declared.Staged.{Staged}
 use Rattle.promises.specs.Contents.{total}
 use Rattle.promises.specs.Sums.{firstGroups, smallest, blockCount}
-use Rattle.promises.specs.Sound.{dirtyNumbers, ofOldest}
+use Rattle.promises.specs.Sound.{dirtyNumbers, areasOf, ofOldest}
 use Rattle.promises.proofs.Table.{free}
 use Rattle.soundness.specs.Tests.{entryLegal, entriesLegal, noStaged, stagedLegal, updatesLegal}
 
@@ -137,16 +137,32 @@ pub legal-end : (pages frames next : ℕ) (entries : List Dirty) (i : ℕ) (lega
     → (legal && entriesLegal pages frames next i (drop i entries)) ≡ whole → legal ≡ whole
 legal-end pages frames next entries i legal whole h so-far = sym (and-true legal) ∙ ap (λ (b : Bool). legal && b) (sym (entries-end pages frames next entries i h)) ∙ so-far
 
+-- ---- update by update
+
 module _ (pages frames : ℕ) (staged : List Staged) (count i : ℕ) (fits : count ≤ length staged) where
-  pub updates-turn : i < count
+  updates-turn : i < count
       → updatesLegal pages frames (drop i (take count staged))
       ≡ (stagedLegal pages frames (getD staged i noStaged) && updatesLegal pages frames (drop (i + 1) (take count staged)))
   unfolding updatesLegal
   updates-turn h = rw (rest-cons staged count i noStaged h fits)
 
-  pub updates-end : count ≤ i → updatesLegal pages frames (drop i (take count staged)) ≡ true
+  updates-none : count ≤ i → updatesLegal pages frames (drop i (take count staged)) ≡ true
   unfolding updatesLegal
-  updates-end h = rw (rest-end staged count i h fits)
+  updates-none h = rw (rest-end staged count i h fits)
+
+module _ (pages frames : ℕ) (staged : List Staged) (count i : ℕ) (fits : count ≤ length staged) (legal whole : Bool)
+    (so-far : (legal && updatesLegal pages frames (drop i (take count staged))) ≡ whole) where
+  -- one more is tested
+  pub updates-more : (test : Bool) → i < count → test ≡ stagedLegal pages frames (getD staged i noStaged)
+      → (legal && test && updatesLegal pages frames (drop (i + 1) (take count staged))) ≡ whole
+  updates-more test h e =
+      let later = updatesLegal pages frames (drop (i + 1) (take count staged)) in
+      ap (λ (b : Bool). legal && b && later) e ∙ and-assoc legal (stagedLegal pages frames (getD staged i noStaged)) later
+      ∙ ap (λ (b : Bool). legal && b) (sym (updates-turn pages frames staged count i fits h)) ∙ so-far
+
+  -- the last is seen
+  pub updates-end : count ≤ i → legal ≡ whole
+  updates-end h = sym (and-true legal) ∙ ap (λ (b : Bool). legal && b) (sym (updates-none pages frames staged count i fits h)) ∙ so-far
 
 -- ---- gathering: one number more goes to the end
 
@@ -155,6 +171,21 @@ gather-more list rest whole n x h e = ap (λ (l : List ℕ). l ++ rest) (ap (λ 
 
 pub gather-end : (list rest whole : List ℕ) (n : ℕ) → rest ≡ [] → take n list ++ rest ≡ whole → take n list ≡ whole
 gather-end list rest whole n z e = sym (append-nil (take n list)) ∙ ap (λ (l : List ℕ). take n list ++ l) (sym z) ∙ e
+
+module _ (staged : List Staged) (count i : ℕ) (fits : count ≤ length staged) (list whole : List ℕ) (so-far : take i list ++ areasOf (drop i (take count staged)) ≡ whole) where
+  -- one more update's area is gathered
+  pub areas-more : (area : ℕ) → i < count → i < length list → area ≡ getD staged i noStaged .area
+      → take (i + 1) (set list i area) ++ areasOf (drop (i + 1) (take count staged)) ≡ whole
+  areas-more area h l e =
+      let later = areasOf (drop (i + 1) (take count staged)) in
+      let is : area ∷ later ≡ areasOf (drop i (take count staged)) = ap (λ (x : ℕ). x ∷ later) e ∙ sym (ap areasOf (rest-cons staged count i noStaged h fits)) in
+      gather-more list later whole i area l (ap (λ (x : List ℕ). take i list ++ x) is ∙ so-far)
+
+  -- all are
+  pub areas-end : i ≡ count → take count list ≡ whole
+  areas-end e =
+      let end = rest-end staged count i (omega arith) fits in
+      ap (λ (n : ℕ). take n list) (sym e) ∙ gather-end list (areasOf (drop i (take count staged))) whole i (ap areasOf end) so-far
 
 module _ (entries : List Dirty) (i : ℕ) (list list′ whole : List ℕ) (n n′ : ℕ) (h : i < length entries) (so-far : take n list ++ dirtyNumbers (drop i entries) ≡ whole) where
   -- a dirty page's number is gathered

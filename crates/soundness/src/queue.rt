@@ -4,7 +4,7 @@ ghost use Prim.Native.Nat.{_≤_};
 ghost use lib.ListN.{length, take, getD};
 ghost use Rattle.promises.specs.Contents.{total};
 ghost use Rattle.promises.specs.Sound.{areasOf, sizesLegal};
-ghost use Rattle.soundness.specs.Tests.{stagedLegal, updatesLegal, waitingLegal};
+ghost use Rattle.soundness.specs.Tests.{stagedLegal, waitingLegal};
 use crate::numbers;
 use crate::wide;
 use numbers::Numbers;
@@ -53,22 +53,6 @@ fn update_sound(staged: Staged, pages: usize, frames: usize) -> bool
     (wide::byte(staged.area) < frames) & legal
 }
 
-// Whether each of the first so many updates is as it has to be by itself.
-fn updates_sound(staged: [Staged; 32], count: usize, pages: usize, frames: usize) -> bool
-    requires { ⌜ count ≤ 32 ⌝ }
-    ensures { λ r. ⌜ r ≡ updatesLegal pages frames (take count staged) ⌝ }
-{
-    let mut i = 0;
-    while i < count {
-        let update = staged[i];
-        if !update_sound(update, pages, frames) {
-            return false;
-        }
-        i += 1;
-    }
-    true
-}
-
 // The areas of the first so many updates.
 pub fn areas_of(staged: [Staged; 32], count: usize) -> Numbers
     requires { ⌜ count ≤ 32 ⌝ }
@@ -84,14 +68,20 @@ pub fn areas_of(staged: [Staged; 32], count: usize) -> Numbers
     Numbers { count, list }
 }
 
-// Whether the first so many updates are as they have to be, in distinct areas.
+// Whether the first so many updates are as they have to be, in distinct areas: one pass tests each and gathers its area.
 pub fn staged_sound(staged: [Staged; 32], count: usize, pages: usize, frames: usize) -> bool
     requires { ⌜ count ≤ 32 ⌝ }
     ensures { λ r. ⌜ r ≡ waitingLegal pages frames (take count staged) ⌝ }
 {
-    let updates = updates_sound(staged, count, pages, frames);
-    let areas = areas_of(staged, count);
-    let list = areas.list;
+    let mut list = [0u16; 32];
+    let mut legal = true;
+    let mut i = 0;
+    while i < count {
+        let update = staged[i];
+        list[i] = wide::short(update.area);
+        legal = legal & update_sound(update, pages, frames);
+        i += 1;
+    }
     let apart = numbers::all_distinct(&list[..count]);
-    updates & apart
+    legal & apart
 }
