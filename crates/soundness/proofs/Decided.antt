@@ -6,7 +6,8 @@ use mathlib.Core.List.{List}
 use Prim.Native.Nat.{ℕ, _+_, _≤_}
 use native.Mathlib.Omega.{arith}
 use native.Mathlib.Nat.{sub-zero}
-use lib.ListN.{length, take}
+use lib.Dec.{leb}
+use lib.ListN.{length, take, getD}
 use borrow.Author.Tests.{leb-true, ltb-true, le-leb, lt-ltb}
 use Rattle.block.proofs.Tests.{never-both, not-passed, bool-ext}
 use Rattle.promises.specs.declared.State.{State}
@@ -16,6 +17,7 @@ use Rattle.promises.specs.Sums.{framesTaken, reservedUpdates}
 use Rattle.promises.specs.Sound.{distinct, dirtyNumbers, areasOf, sizesLegal, ofOldest, stagedOf, ticketSound, slotSumSound, frameSumSound, sequenceSumSound, names, cleaningSound, sound}
 use Rattle.promises.proofs.Soundness.{and-both, and2, Sound, sound-of, of-sound}
 use Rattle.soundness.specs.Tests.{inRange, fitting, countsLegal, entriesLegal, pagesLegal, updatesLegal, waitingLegal}
+use Rattle.soundness.proofs.Scans.{stored-oldest}
 use Rattle.soundness.proofs.Counts.{InRange, range-of, of-range, reserved-is}
 use Rattle.soundness.proofs.Entries.{Entries, entries-of, of-entries, Waiting, waiting-of, of-waiting}
 
@@ -62,6 +64,11 @@ counts-of s long f =
     } in
     and2 (and2 (of-range s range) (and2 (f .groups) (f .stored)))
     (and2 (and2 (and2 (lt-ltb _ _ (f .ticket)) (le-leb _ _ (f .slotSum))) (le-leb _ _ (f .frameSum))) (le-leb _ _ (f .sequenceSum)))
+
+-- what one pass over the groups tells
+pub told : (s : State) (legal : Bool) (oldest : ℕ) → legal ≡ sizesLegal (groupsOf s) → oldest ≡ getD (groupsOf s) 0 0
+    → (legal && leb (s .stored) oldest) ≡ (sizesLegal (groupsOf s) && ofOldest (s .stored) (groupsOf s))
+told s legal oldest e f = rw (e, f, stored-oldest (s .stored) (groupsOf s))
 
 -- what one pass over the frames and the cleaning tell
 pub surveyed : (s : State) (legal : Bool) (listed : List ℕ) → legal ≡ entriesLegal (s .pages) (s .frames) (s .next) 0 (s .dirty) → listed ≡ dirtyNumbers (s .dirty)

@@ -1,20 +1,20 @@
 -- What a scan of the state's arrays tells at each turn: what is left to see, and how a definition over it goes on.
 -- Assumes nothing.
 use mathlib.Core.Path.{_≡_, refl, sym, ap, _∙_}
-use mathlib.Core.Bool.{Bool, true, false, _&&_, and-true, and-assoc}
+use mathlib.Core.Bool.{Bool, true, _&&_, and-true, and-assoc}
 use mathlib.Core.List.{List, [], _∷_, _++_, map, append-assoc, append-nil}
-use Prim.Native.Nat.{ℕ, zero, suc, _+_, _≤_, _<_, min}
+use Prim.Native.Nat.{ℕ, zero, suc, _+_, _-_, _≤_, _<_, min}
 use native.Mathlib.Omega.{arith}
 use native.Mathlib.Numerals.{add-one}
-use lib.Dec.{eqb, leb}
+use lib.Dec.{leb}
 use lib.ListN.{length, take, drop, getD, set, length-map, drop-of-length-le}
 use lib.Seq.{drop-cons, getD-take, length-take-le, take-suc-set}
-use borrow.Author.Tests.{eq-eqb, ne-eqb}
+use borrow.Author.Tests.{lt-leb, eq-eqb, ne-eqb}
 use Rattle.promises.specs.declared.Dirty.{Dirty}
 use Rattle.promises.specs.declared.Staged.{Staged}
 use Rattle.promises.specs.Contents.{total}
 use Rattle.promises.specs.Sums.{firstGroups, smallest, blockCount}
-use Rattle.promises.specs.Sound.{dirtyNumbers, ofOldest}
+use Rattle.promises.specs.Sound.{dirtyNumbers, areasOf, ofOldest}
 use Rattle.promises.proofs.Table.{free}
 use Rattle.soundness.specs.Tests.{entryLegal, entriesLegal, noStaged, stagedLegal, updatesLegal}
 
@@ -31,6 +31,12 @@ module _ {A : Type 0} where
   rest-cons l n i d h k =
       let e : length (take n l) ≡ n = length-take-le n l k in
       rw (add-one, drop-cons (take n l) i d (omega arith), getD-take n l i d h)
+
+  -- one step towards the first element
+  pub rest-back : (l : List A) (n i : ℕ) (d : A) → 0 < i → i ≤ n → n ≤ length l → drop (i - 1) (take n l) ≡ getD l (i - 1) d ∷ drop i (take n l)
+  rest-back l n i d p h k =
+      let back : i - 1 + 1 ≡ i = omega arith in
+      rest-cons l n (i - 1) d (omega arith) k ∙ ap (λ (j : ℕ). getD l (i - 1) d ∷ drop j (take n l)) back
 
   pub rest-end : (l : List A) (n i : ℕ) → n ≤ i → n ≤ length l → drop i (take n l) ≡ []
   rest-end l n i h k =
@@ -85,15 +91,11 @@ module _ (entries : List Dirty) (i low low′ own : ℕ) (h : i < length entries
 
 -- ---- the queue
 
--- what is stored is of the oldest group
-pub oldest-none : (stored queued : ℕ) (groups : List ℕ) → queued ≡ 0 → eqb stored 0 ≡ ofOldest stored (take queued groups)
-oldest-none stored queued groups e = rw e
-
-pub oldest-some : (stored queued : ℕ) (groups : List ℕ) (size : ℕ) → (queued ≡ 0 → ⊥) → 0 < length groups → size ≡ getD groups 0 0
-    → leb stored size ≡ ofOldest stored (take queued groups)
-oldest-some stored zero groups size n h e = absurd (n refl)
-oldest-some stored (suc queued) [] size n h e = absurd (omega arith)
-oldest-some stored (suc queued) (x ∷ groups) size n h e = rw e
+-- no more is stored than the oldest group has, and nothing where no group is queued
+pub stored-oldest : (stored : ℕ) (sizes : List ℕ) → leb stored (getD sizes 0 0) ≡ ofOldest stored sizes
+stored-oldest zero [] = refl
+stored-oldest (suc stored) [] = lt-leb (suc stored) 0 (omega arith) ∙ sym (ne-eqb (suc stored) 0 (λ e. omega arith))
+stored-oldest stored (size ∷ sizes) = refl
 
 pub blocks-total : (sizes : List ℕ) → blockCount sizes ≡ total sizes + length sizes
 blocks-total [] = omega arith
@@ -135,16 +137,32 @@ pub legal-end : (pages frames next : ℕ) (entries : List Dirty) (i : ℕ) (lega
     → (legal && entriesLegal pages frames next i (drop i entries)) ≡ whole → legal ≡ whole
 legal-end pages frames next entries i legal whole h so-far = sym (and-true legal) ∙ ap (λ (b : Bool). legal && b) (sym (entries-end pages frames next entries i h)) ∙ so-far
 
+-- ---- update by update
+
 module _ (pages frames : ℕ) (staged : List Staged) (count i : ℕ) (fits : count ≤ length staged) where
-  pub updates-turn : i < count
+  updates-turn : i < count
       → updatesLegal pages frames (drop i (take count staged))
       ≡ (stagedLegal pages frames (getD staged i noStaged) && updatesLegal pages frames (drop (i + 1) (take count staged)))
   unfolding updatesLegal
   updates-turn h = rw (rest-cons staged count i noStaged h fits)
 
-  pub updates-end : count ≤ i → updatesLegal pages frames (drop i (take count staged)) ≡ true
+  updates-none : count ≤ i → updatesLegal pages frames (drop i (take count staged)) ≡ true
   unfolding updatesLegal
-  updates-end h = rw (rest-end staged count i h fits)
+  updates-none h = rw (rest-end staged count i h fits)
+
+module _ (pages frames : ℕ) (staged : List Staged) (count i : ℕ) (fits : count ≤ length staged) (legal whole : Bool)
+    (so-far : (legal && updatesLegal pages frames (drop i (take count staged))) ≡ whole) where
+  -- one more is tested
+  pub updates-more : (test : Bool) → i < count → test ≡ stagedLegal pages frames (getD staged i noStaged)
+      → (legal && test && updatesLegal pages frames (drop (i + 1) (take count staged))) ≡ whole
+  updates-more test h e =
+      let later = updatesLegal pages frames (drop (i + 1) (take count staged)) in
+      ap (λ (b : Bool). legal && b && later) e ∙ and-assoc legal (stagedLegal pages frames (getD staged i noStaged)) later
+      ∙ ap (λ (b : Bool). legal && b) (sym (updates-turn pages frames staged count i fits h)) ∙ so-far
+
+  -- the last is seen
+  pub updates-end : count ≤ i → legal ≡ whole
+  updates-end h = sym (and-true legal) ∙ ap (λ (b : Bool). legal && b) (sym (updates-none pages frames staged count i fits h)) ∙ so-far
 
 -- ---- gathering: one number more goes to the end
 
@@ -153,6 +171,21 @@ gather-more list rest whole n x h e = ap (λ (l : List ℕ). l ++ rest) (ap (λ 
 
 pub gather-end : (list rest whole : List ℕ) (n : ℕ) → rest ≡ [] → take n list ++ rest ≡ whole → take n list ≡ whole
 gather-end list rest whole n z e = sym (append-nil (take n list)) ∙ ap (λ (l : List ℕ). take n list ++ l) (sym z) ∙ e
+
+module _ (staged : List Staged) (count i : ℕ) (fits : count ≤ length staged) (list whole : List ℕ) (so-far : take i list ++ areasOf (drop i (take count staged)) ≡ whole) where
+  -- one more update's area is gathered
+  pub areas-more : (area : ℕ) → i < count → i < length list → area ≡ getD staged i noStaged .area
+      → take (i + 1) (set list i area) ++ areasOf (drop (i + 1) (take count staged)) ≡ whole
+  areas-more area h l e =
+      let later = areasOf (drop (i + 1) (take count staged)) in
+      let is : area ∷ later ≡ areasOf (drop i (take count staged)) = ap (λ (x : ℕ). x ∷ later) e ∙ sym (ap areasOf (rest-cons staged count i noStaged h fits)) in
+      gather-more list later whole i area l (ap (λ (x : List ℕ). take i list ++ x) is ∙ so-far)
+
+  -- all are
+  pub areas-end : i ≡ count → take count list ≡ whole
+  areas-end e =
+      let end = rest-end staged count i (omega arith) fits in
+      ap (λ (n : ℕ). take n list) (sym e) ∙ gather-end list (areasOf (drop i (take count staged))) whole i (ap areasOf end) so-far
 
 module _ (entries : List Dirty) (i : ℕ) (list list′ whole : List ℕ) (n n′ : ℕ) (h : i < length entries) (so-far : take n list ++ dirtyNumbers (drop i entries) ≡ whole) where
   -- a dirty page's number is gathered

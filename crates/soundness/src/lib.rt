@@ -64,7 +64,9 @@ pub fn checked(state: State) -> Verdict
     if !in_range(state) {
         return unsound();
     }
-    if !queue::groups_sound(state) {
+    let groups = state.groups;
+    let sizes = queue::sizes_of(groups, state.queued);
+    if !(sizes.legal & (state.stored <= sizes.oldest)) {
         return unsound();
     }
     let dirty = state.dirty;
@@ -75,7 +77,7 @@ pub fn checked(state: State) -> Verdict
         state.next,
         state.next - state.stored as u64,
     );
-    let queued = sums::queued_updates(state);
+    let queued = sizes.updates;
     let sums = Sums {
         held: (state.next - survey.low) as usize,
         waiting: queued + state.queued - state.stored,

@@ -1,54 +1,45 @@
 // The queue of a state: its groups' sizes, and the updates that wait in staging.
 ghost use mathlib.Core.Path.{_≡_};
 ghost use Prim.Native.Nat.{_≤_};
-ghost use mathlib.Core.Bool.{_&&_};
-ghost use lib.ListN.{length, take};
-ghost use Rattle.promises.specs.Contents.{groupsOf};
-ghost use Rattle.promises.specs.Sound.{areasOf, sizesLegal, ofOldest};
-ghost use Rattle.soundness.specs.Tests.{stagedLegal, updatesLegal, waitingLegal};
+ghost use lib.ListN.{length, take, getD};
+ghost use Rattle.promises.specs.Contents.{total};
+ghost use Rattle.promises.specs.Sound.{areasOf, sizesLegal};
+ghost use Rattle.soundness.specs.Tests.{stagedLegal, waitingLegal};
 use crate::numbers;
 use crate::wide;
 use numbers::Numbers;
 use promises::Staged;
-use promises::State;
 
-// Whether each queued group has 1 to 16 updates.
-fn sizes_legal(state: State) -> bool
-    requires { ⌜ state .queued ≤ 32 ⌝ }
-    ensures { λ r. ⌜ r ≡ sizesLegal (groupsOf state) ⌝ }
-{
-    let queued = state.queued;
-    let mut i = 0;
-    while i < queued {
-        let size = state.groups[i];
-        if !((1 <= size) & (size <= 16)) {
-            return false;
-        }
-        i += 1;
-    }
-    true
+// What one pass over the queued groups tells: whether each has 1 to 16 updates, how many updates the oldest has, 0 where no group is
+// queued, and V, how many all have.
+pub struct Sizes {
+    pub legal: bool,
+    pub oldest: usize,
+    pub updates: usize,
 }
 
-// Whether no more updates are stored than the oldest queued group has.
-fn of_oldest(state: State) -> bool
-    requires { ⌜ state .queued ≤ 32 ⌝ }
-    ensures { λ r. ⌜ r ≡ ofOldest (state .stored) (groupsOf state) ⌝ }
+// One pass over the first so many groups, from the last to the first.
+pub fn sizes_of(groups: [u8; 32], queued: usize) -> Sizes
+    requires { ⌜ queued ≤ 32 ⌝ }
+    ensures { λ r. ⌜ (r .legal ≡ sizesLegal (take queued groups)) × (r .oldest ≡ getD (take queued groups) 0 0)
+        × (r .updates ≡ total (take queued groups)) × (r .updates ≤ 8160) ⌝ }
 {
-    if state.queued == 0 {
-        return state.stored == 0;
+    let mut legal = true;
+    let mut oldest: usize = 0;
+    let mut updates: usize = 0;
+    let mut i = queued;
+    while 0 < i {
+        i -= 1;
+        let size = groups[i];
+        legal = (1 <= size) & (size <= 16) & legal;
+        oldest = wide::byte(size);
+        updates += oldest;
     }
-    let size = wide::byte(state.groups[0]);
-    state.stored <= size
-}
-
-// Whether the queued groups and what is stored of the oldest are as they have to be.
-pub fn groups_sound(state: State) -> bool
-    requires { ⌜ state .queued ≤ 32 ⌝ }
-    ensures { λ r. ⌜ r ≡ sizesLegal (groupsOf state) && ofOldest (state .stored) (groupsOf state) ⌝ }
-{
-    let sizes = sizes_legal(state);
-    let oldest = of_oldest(state);
-    sizes & oldest
+    Sizes {
+        legal,
+        oldest,
+        updates,
+    }
 }
 
 // Whether an update that waits is in an area below F, and its place legal.
@@ -60,22 +51,6 @@ fn update_sound(staged: Staged, pages: usize, frames: usize) -> bool
     let length = wide::field(staged.length);
     let legal = block::legal_place(pages, page, offset, length);
     (wide::byte(staged.area) < frames) & legal
-}
-
-// Whether each of the first so many updates is as it has to be by itself.
-fn updates_sound(staged: [Staged; 32], count: usize, pages: usize, frames: usize) -> bool
-    requires { ⌜ count ≤ 32 ⌝ }
-    ensures { λ r. ⌜ r ≡ updatesLegal pages frames (take count staged) ⌝ }
-{
-    let mut i = 0;
-    while i < count {
-        let update = staged[i];
-        if !update_sound(update, pages, frames) {
-            return false;
-        }
-        i += 1;
-    }
-    true
 }
 
 // The areas of the first so many updates.
@@ -93,14 +68,20 @@ pub fn areas_of(staged: [Staged; 32], count: usize) -> Numbers
     Numbers { count, list }
 }
 
-// Whether the first so many updates are as they have to be, in distinct areas.
+// Whether the first so many updates are as they have to be, in distinct areas: one pass tests each and gathers its area.
 pub fn staged_sound(staged: [Staged; 32], count: usize, pages: usize, frames: usize) -> bool
     requires { ⌜ count ≤ 32 ⌝ }
     ensures { λ r. ⌜ r ≡ waitingLegal pages frames (take count staged) ⌝ }
 {
-    let updates = updates_sound(staged, count, pages, frames);
-    let areas = areas_of(staged, count);
-    let list = areas.list;
+    let mut list = [0u16; 32];
+    let mut legal = true;
+    let mut i = 0;
+    while i < count {
+        let update = staged[i];
+        list[i] = wide::short(update.area);
+        legal = legal & update_sound(update, pages, frames);
+        i += 1;
+    }
     let apart = numbers::all_distinct(&list[..count]);
-    updates & apart
+    legal & apart
 }

@@ -1,10 +1,9 @@
 // The paper's sums over a state.
 ghost use mathlib.Core.Path.{_≡_};
 ghost use Prim.Native.Nat.{_≤_};
-ghost use Rattle.promises.specs.Sums.{queuedUpdates, owedBlocks};
+ghost use Rattle.promises.specs.Sums.{owedBlocks};
 ghost use Rattle.soundness.specs.Tests.{fitting};
 ghost use Rattle.soundness.specs.Summed.{Addable, Summed};
-use crate::wide;
 use promises::State;
 
 // H, W, D and V.
@@ -13,21 +12,6 @@ pub struct Sums {
     pub waiting: usize,
     pub dirty: usize,
     pub queued: usize,
-}
-
-// V: the count of updates in queued transactions.
-pub fn queued_updates(state: State) -> usize
-    requires { ⌜ state .queued ≤ 32 ⌝ }
-    ensures { λ r. ⌜ (r ≡ queuedUpdates state) × (r ≤ 8160) ⌝ }
-{
-    let queued = state.queued;
-    let mut sum: usize = 0;
-    let mut i = 0;
-    while i < queued {
-        sum += wide::byte(state.groups[i]);
-        i += 1;
-    }
-    sum
 }
 
 // What the open transaction owes: R + 1 blocks, none where none is open.

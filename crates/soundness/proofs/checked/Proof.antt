@@ -1,8 +1,9 @@
 -- `checked` meets its contract: the tests together are soundness, and one pass over the frames gives their sums.
 -- Assumes nothing.
 use mathlib.Core.Path.{_≡_, sym, _∙_}
-use mathlib.Core.Bool.{true, false, _&&_, and-true}
+use mathlib.Core.Bool.{Bool, true, false, _&&_, and-true}
 use Prim.Native.Nat.{_+_, _-_}
+use lib.Dec.{leb}
 use lib.ListN.{length}
 use borrow.Author.Tests.{not-true, not-false}
 use Rattle.block.proofs.Tests.{never-both}
@@ -14,7 +15,7 @@ use Rattle.soundness.specs.Tests.{inRange, fitting, countsLegal, pagesLe
 use Rattle.soundness.specs.Summed.{Addable, Summed}
 use Rattle.soundness.proofs.Scans.{length-mapped}
 use Rattle.soundness.proofs.Counts.{range-of, queued-range, addable, summed, stored-most, sums-small, counts-range, counts-groups, counts-fit}
-use Rattle.soundness.proofs.Decided.{counted, waiting-few, surveyed, none-waiting, unsound, decided}
+use Rattle.soundness.proofs.Decided.{counted, waiting-few, told, surveyed, none-waiting, unsound, decided}
 use borrow.Author.Needs.{needs}
 use native.Mathlib.Omega.{arith}
 use Rattle.soundness.proofs.checked.Statement.{statement}
@@ -26,34 +27,41 @@ groups-long c = search needs
 staged-long : (c : tie.Start) → length (c .args .state .staged) ≡ 32
 staged-long c = search (needs, length-mapped)
 
-range-at : (c : tie.Else1) → inRange (c .before .before .args .state) ≡ true
-range-at c = sym (c .before .in-range .ensures) ∙ not-false _ (c .if1 .left)
+range-at : (c : tie.Else1) → inRange ((c .before .before) .args .state) ≡ true
+range-at c = sym ((c .before) .in-range .ensures) ∙ not-false _ (c .if1 .left)
 
-groups-at : (c : tie.Else2) → let s = c .before .before .before .before .args .state in (sizesLegal (groupsOf s) && ofOldest (s .stored) (groupsOf s)) ≡ true
-groups-at c = sym (c .before .groups-sound .ensures) ∙ not-false _ (c .if2 .left)
+abbrev passes-at : tie.After-struct-known3 → Bool
+passes-at c = (c .before .before .before) .sizes-of .result .legal && leb ((c .before .before .before .before .before .before .before) .args .state .stored) ((c .before .before .before) .sizes-of .result .oldest)
 
-addable-at : (c : tie.Else2) → Addable (c .before .before .before .before .args .state)
-addable-at c = addable (c .before .before .before .before .args .state) (range-at (c .before .before)) (groups-at c)
+told-at : (c : tie.After-struct-known3) → let s = (c .before .before .before .before .before .before .before) .args .state in passes-at c ≡ (sizesLegal (groupsOf s) && ofOldest (s .stored) (groupsOf s))
+told-at c = let sizes = (c .before .before .before) .sizes-of .ensures in told ((c .before .before .before .before .before .before .before) .args .state) _ _ (sizes .0) (sizes .1)
 
-abbrev sums-at : tie.After-struct-known5 → Sums
+groups-at : (c : tie.Else2) → let s = (c .before .before .before .before .before .before .before .before) .args .state in (sizesLegal (groupsOf s) && ofOldest (s .stored) (groupsOf s)) ≡ true
+groups-at c = sym (told-at (c .before)) ∙ not-false (passes-at (c .before)) (c .if2 .left)
+
+addable-at : (c : tie.Else2) → Addable ((c .before .before .before .before .before .before .before .before) .args .state)
+addable-at c = addable ((c .before .before .before .before .before .before .before .before) .args .state) (range-at (c .before .before .before .before .before .before)) (groups-at c)
+
+abbrev sums-at : tie.After-struct-known8 → Sums
 sums-at c =
-    let s = c .before .before .before .before .before .before .before .before .before .before .before .before .args .state in
-    let survey = c .before .before .before .before .before .survey-of .result in
-    let queued = c .before .before .before .before .queued-updates .result in
+    let s = (c .before .before .before .before .before .before .before .before .before .before .before .before .before .before .before) .args .state in
+    let survey = (c .before .before .before .before) .survey-of .result in
+    let queued = (c .before .before .before .before .before .before .before .before .before .before .before) .sizes-of .result .updates in
     record { held = s .next - survey .low; waiting = queued + s .queued - s .stored; dirty = survey .count; queued = queued }
 
-summed-at : (c : tie.After-struct-known5) → Summed (c .before .before .before .before .before .before .before .before .before .before .before .before .args .state) (sums-at c)
+summed-at : (c : tie.After-struct-known8) → Summed ((c .before .before .before .before .before .before .before .before .before .before .before .before .before .before .before) .args .state) (sums-at c)
 summed-at c =
-    let survey = c .before .before .before .before .before .survey-of .ensures in
-    summed (c .before .before .before .before .before .before .before .before .before .before .before .before .args .state) _ _ _ (groups-long (c .before .before .before .before .before .before .before .before .before .before .before .before)) (addable-at (c .before .before .before .before .before .before .before .before)) (survey .3) (survey .1, survey .2) (c .before .before .before .before .queued-updates .ensures)
+    let survey = (c .before .before .before .before) .survey-of .ensures in
+    let sizes = (c .before .before .before .before .before .before .before .before .before .before .before) .sizes-of .ensures in
+    summed ((c .before .before .before .before .before .before .before .before .before .before .before .before .before .before .before) .args .state) _ _ _ (groups-long (c .before .before .before .before .before .before .before .before .before .before .before .before .before .before .before)) (addable-at (c .before .before .before .before .before .before .before)) (survey .3) (survey .1, survey .2) (sizes .2, sizes .3)
 
-counts-at : (c : tie.Else3) → countsLegal (c .before .before .before .before .before .before .before .before .before .before .before .before .before .before .args .state) ≡ true
-counts-at c = sym (counts-fit (c .before .before .before .before .before .before .before .before .before .before .before .before .before .before .args .state) (range-at (c .before .before .before .before .before .before .before .before .before .before .before .before)) (groups-at (c .before .before .before .before .before .before .before .before .before .before))) ∙ (sym (c .before .fit .ensures) ∙ not-false _ (c .if3 .left))
+counts-at : (c : tie.Else3) → countsLegal ((c .before .before .before .before .before .before .before .before .before .before .before .before .before .before .before .before .before) .args .state) ≡ true
+counts-at c = sym (counts-fit ((c .before .before .before .before .before .before .before .before .before .before .before .before .before .before .before .before .before) .args .state) (range-at (c .before .before .before .before .before .before .before .before .before .before .before .before .before .before .before)) (groups-at (c .before .before .before .before .before .before .before .before .before))) ∙ (sym ((c .before) .fit .ensures) ∙ not-false _ (c .if3 .left))
 
-pages-at : (c : tie.After-pages-sound) → c .pages-sound .result ≡ pagesLegal (c .before .before .before .before .before .before .before .before .before .before .before .before .before .before .before .args .state)
+pages-at : (c : tie.After-pages-sound) → c .pages-sound .result ≡ pagesLegal ((c .before .before .before .before .before .before .before .before .before .before .before .before .before .before .before .before .before .before) .args .state)
 pages-at c =
-    let survey = c .before .before .before .before .before .before .before .before .survey-of in
-    c .pages-sound .ensures ∙ surveyed (c .before .before .before .before .before .before .before .before .before .before .before .before .before .before .before .args .state) _ _ (survey .ensures .0) (survey .ensures .5)
+    let survey = (c .before .before .before .before .before .before .before) .survey-of in
+    c .pages-sound .ensures ∙ surveyed ((c .before .before .before .before .before .before .before .before .before .before .before .before .before .before .before .before .before .before) .args .state) _ _ (survey .ensures .0) (survey .ensures .5)
 
 -- a refused state has no sums
 none : (s : State) (C : Type 0) → false ≡ sound s → sound s ≡ true → C
@@ -71,71 +79,69 @@ returns c =
     let fails = unsound s (groups-long (c .before .before .before)) (staged-long (c .before .before .before)) (sym (counts-range s (sym ((c .before .before) .in-range .ensures) ∙ not-true _ ((c .before) .if1 .taken)))) in
     (c .unsound .ensures ∙ fails, none s _ fails)
 
-groups-sound-requires : tie.Need-groups-sound-requires
-groups-sound-requires c κs = queued-range ((c .before .before) .args .state) (range-at c)
+sizes-of-requires : tie.Need-sizes-of-requires
+sizes-of-requires c κs = queued-range ((c .before .before .before) .args .state) (range-at (c .before))
 
 unsound-requires-2 : tie.Need-unsound-requires-2
 unsound-requires-2 c κs = search needs
 
 returns-2 : tie.Need-returns-2
 returns-2 c =
-    let s = (c .before .before .before .before .before) .args .state in
-    let fails = unsound s (groups-long (c .before .before .before .before .before)) (staged-long (c .before .before .before .before .before)) (sym (counts-groups s (range-at (c .before .before .before)) (sym ((c .before .before) .groups-sound .ensures) ∙ not-true _ ((c .before) .if2 .taken)))) in
+    let s = (c .before .before .before .before .before .before .before .before .before) .args .state in
+    let bad = sym (told-at (c .before .before)) ∙ not-true (passes-at (c .before .before)) ((c .before) .if2 .taken) in
+    let fails = unsound s (groups-long (c .before .before .before .before .before .before .before .before .before)) (staged-long (c .before .before .before .before .before .before .before .before .before)) (sym (counts-groups s (range-at (c .before .before .before .before .before .before .before)) bad)) in
     (c .unsound2 .ensures ∙ fails, none s _ fails)
 
 sub-survey-of : tie.Need-sub-survey-of
-sub-survey-of c = let r = range-of ((c .before .before .before .before .before .before) .args .state) (range-at (c .before .before .before .before)) in search needs
+sub-survey-of c = let r = range-of ((c .before .before .before .before .before .before .before .before .before .before) .args .state) (range-at (c .before .before .before .before .before .before .before .before)) in search needs
 
 survey-of-requires : tie.Need-survey-of-requires
 survey-of-requires c κs = search needs
 
-queued-updates-requires : tie.Need-queued-updates-requires
-queued-updates-requires c κs = queued-range ((c .before .before .before .before .before .before .before) .args .state) (range-at (c .before .before .before .before .before))
+sub-t16 : tie.Need-sub-t16
+sub-t16 c = search needs
 
-sub-t13 : tie.Need-sub-t13
-sub-t13 c = search needs
+add-t19 : tie.Need-add-t19
+add-t19 c = let r = range-of ((c .before .before .before .before .before .before .before .before .before .before .before .before .before .before) .args .state) (range-at (c .before .before .before .before .before .before .before .before .before .before .before .before)) in search needs
 
-add-t16 : tie.Need-add-t16
-add-t16 c = let r = range-of ((c .before .before .before .before .before .before .before .before .before .before .before) .args .state) (range-at (c .before .before .before .before .before .before .before .before .before)) in search needs
-
-sub-t17 : tie.Need-sub-t17
-sub-t17 c = omega (arith, stored-most ((c .before .before .before .before .before .before .before .before .before .before .before .before) .args .state) (groups-long (c .before .before .before .before .before .before .before .before .before .before .before .before)) (addable-at (c .before .before .before .before .before .before .before .before)), (c .before .before .before .before) .queued-updates .ensures .0)
+sub-t20 : tie.Need-sub-t20
+sub-t20 c = omega (arith, stored-most ((c .before .before .before .before .before .before .before .before .before .before .before .before .before .before .before) .args .state) (groups-long (c .before .before .before .before .before .before .before .before .before .before .before .before .before .before .before)) (addable-at (c .before .before .before .before .before .before .before)), (c .before .before .before .before .before .before .before .before .before .before .before) .sizes-of .ensures .2)
 
 fit-requires : tie.Need-fit-requires
-fit-requires c κs = (addable-at (c .before .before .before .before .before .before .before .before), summed-at c)
+fit-requires c κs = (addable-at (c .before .before .before .before .before .before .before), summed-at c)
 
 unsound-requires-3 : tie.Need-unsound-requires-3
 unsound-requires-3 c κs = search needs
 
 returns-3 : tie.Need-returns-3
 returns-3 c =
-    let s = (c .before .before .before .before .before .before .before .before .before .before .before .before .before .before .before) .args .state in
+    let s = (c .before .before .before .before .before .before .before .before .before .before .before .before .before .before .before .before .before .before) .args .state in
     let misfit : fitting s ≡ false = sym ((c .before .before) .fit .ensures) ∙ not-true _ ((c .before) .if3 .taken) in
-    let fails = unsound s (groups-long (c .before .before .before .before .before .before .before .before .before .before .before .before .before .before .before)) (staged-long (c .before .before .before .before .before .before .before .before .before .before .before .before .before .before .before)) (sym (counts-fit s (range-at (c .before .before .before .before .before .before .before .before .before .before .before .before .before)) (groups-at (c .before .before .before .before .before .before .before .before .before .before .before))) ∙ misfit) in
+    let fails = unsound s (groups-long (c .before .before .before .before .before .before .before .before .before .before .before .before .before .before .before .before .before .before)) (staged-long (c .before .before .before .before .before .before .before .before .before .before .before .before .before .before .before .before .before .before)) (sym (counts-fit s (range-at (c .before .before .before .before .before .before .before .before .before .before .before .before .before .before .before .before)) (groups-at (c .before .before .before .before .before .before .before .before .before .before))) ∙ misfit) in
     (c .unsound3 .ensures ∙ fails, none s _ fails)
 
 pages-sound-requires : tie.Need-pages-sound-requires
-pages-sound-requires c κs = ((c .before .before .before .before .before .before .before) .survey-of .ensures .2, (c .before .before .before .before .before .before .before) .survey-of .ensures .6)
+pages-sound-requires c κs = ((c .before .before .before .before .before .before) .survey-of .ensures .2, (c .before .before .before .before .before .before) .survey-of .ensures .6)
 
 add-count : tie.Need-add-count
-add-count c = omega (arith, (c .before .before .before .before .before .before .before .before) .queued-updates .ensures .1, counted ((c .before .before .before .before .before .before .before .before .before .before .before .before .before .before .before .before) .args .state) (counts-at (c .before .before)) .range)
+add-count c = omega (arith, (c .before .before .before .before .before .before .before .before .before .before .before .before .before .before .before) .sizes-of .ensures .3, counted ((c .before .before .before .before .before .before .before .before .before .before .before .before .before .before .before .before .before .before .before) .args .state) (counts-at (c .before .before)) .range)
 
 returns-4 : tie.Need-returns-4
 returns-4 c =
-    let s = (c .before .before .before .before .before .before .before .before .before .before .before .before .before .before .before .before .before) .args .state in
-    let queued = (c .before .before .before .before .before .before .before .before .before) .queued-updates in
-    let same = decided s (groups-long (c .before .before .before .before .before .before .before .before .before .before .before .before .before .before .before .before .before)) (staged-long (c .before .before .before .before .before .before .before .before .before .before .before .before .before .before .before .before .before)) (counts-at (c .before .before .before)) (queued .result) _ true (queued .ensures .0) (pages-at (c .before .before))
-    (none-waiting (s .pages) (s .frames) (s .staged) (queued .result + s .described) (c .if4 .taken)) in
+    let s = (c .before .before .before .before .before .before .before .before .before .before .before .before .before .before .before .before .before .before .before .before) .args .state in
+    let sizes = (c .before .before .before .before .before .before .before .before .before .before .before .before .before .before .before .before) .sizes-of in
+    let same = decided s (groups-long (c .before .before .before .before .before .before .before .before .before .before .before .before .before .before .before .before .before .before .before .before)) (staged-long (c .before .before .before .before .before .before .before .before .before .before .before .before .before .before .before .before .before .before .before .before)) (counts-at (c .before .before .before)) (sizes .result .updates) _ true (sizes .ensures .2) (pages-at (c .before .before))
+    (none-waiting (s .pages) (s .frames) (s .staged) (sizes .result .updates + s .described) (c .if4 .taken)) in
     (sym (and-true _) ∙ same, λ t. (summed-at (c .before .before .before .before .before), sums-small s (sums-at (c .before .before .before .before .before)) t (summed-at (c .before .before .before .before .before))))
 
 staged-sound-requires : tie.Need-staged-sound-requires
-staged-sound-requires c κs = omega (arith, (c .before .before .before .before .before .before .before .before .before .before) .queued-updates .ensures .0, waiting-few ((c .before .before .before .before .before .before .before .before .before .before .before .before .before .before .before .before .before .before) .args .state) (counts-at (c .before .before .before .before)))
+staged-sound-requires c κs = omega (arith, (c .before .before .before .before .before .before .before .before .before .before .before .before .before .before .before .before .before) .sizes-of .ensures .2, waiting-few ((c .before .before .before .before .before .before .before .before .before .before .before .before .before .before .before .before .before .before .before .before .before) .args .state) (counts-at (c .before .before .before .before)))
 
 returns-5 : tie.Need-returns-5
 returns-5 c =
-    let s = (c .before .before .before .before .before .before .before .before .before .before .before .before .before .before .before .before .before .before .before) .args .state in
-    let queued = (c .before .before .before .before .before .before .before .before .before .before .before) .queued-updates in
-    let same = decided s (groups-long (c .before .before .before .before .before .before .before .before .before .before .before .before .before .before .before .before .before .before .before)) (staged-long (c .before .before .before .before .before .before .before .before .before .before .before .before .before .before .before .before .before .before .before)) (counts-at (c .before .before .before .before .before)) (queued .result) _ _ (queued .ensures .0) (pages-at (c .before .before .before .before)) (c .staged-sound .ensures) in
+    let s = (c .before .before .before .before .before .before .before .before .before .before .before .before .before .before .before .before .before .before .before .before .before .before) .args .state in
+    let sizes = (c .before .before .before .before .before .before .before .before .before .before .before .before .before .before .before .before .before .before) .sizes-of in
+    let same = decided s (groups-long (c .before .before .before .before .before .before .before .before .before .before .before .before .before .before .before .before .before .before .before .before .before .before)) (staged-long (c .before .before .before .before .before .before .before .before .before .before .before .before .before .before .before .before .before .before .before .before .before .before)) (counts-at (c .before .before .before .before .before)) (sizes .result .updates) _ _ (sizes .ensures .2) (pages-at (c .before .before .before .before)) (c .staged-sound .ensures) in
     (same, λ t. (summed-at (c .before .before .before .before .before .before .before), sums-small s (sums-at (c .before .before .before .before .before .before .before)) t (summed-at (c .before .before .before .before .before .before .before))))
 
 pub checked-spec : {M : Type 1} → statement M
@@ -145,15 +151,14 @@ checked-spec =
     in-range-requires
     unsound-requires
     returns
-    groups-sound-requires
+    sizes-of-requires
     unsound-requires-2
     returns-2
     sub-survey-of
     survey-of-requires
-    queued-updates-requires
-    sub-t13
-    add-t16
-    sub-t17
+    sub-t16
+    add-t19
+    sub-t20
     fit-requires
     unsound-requires-3
     returns-3

@@ -1,12 +1,11 @@
 -- `queue::areas_of` meets its contract. The loop's invariant: the areas so far and those left are all.
 -- Assumes nothing.
-use Prim.Native.Nat.{ℕ, _-_, _+_, _≤_}
-use mathlib.Core.Path.{_≡_, refl, sym, ap, _∙_}
-use mathlib.Core.List.{List, _∷_, _++_}
+use Prim.Native.Nat.{_-_, _≤_}
+use mathlib.Core.Path.{_≡_, refl}
+use mathlib.Core.List.{_++_}
 use lib.ListN.{length, drop, take, length-set}
 use Rattle.promises.specs.Sound.{areasOf}
-use Rattle.soundness.specs.Tests.{noStaged}
-use Rattle.soundness.proofs.Scans.{length-mapped, rest-cons, rest-end, gather-more, gather-end}
+use Rattle.soundness.proofs.Scans.{length-mapped, areas-more, areas-end}
 use borrow.Author.Needs.{needs}
 use native.Mathlib.Omega.{arith}
 use Rattle.soundness.proofs.queue.areas_of.Statement.{statement}
@@ -50,12 +49,7 @@ loop-again c =
     let args = c .before .before .before .before .args in
     let at = c .before .before .before .loop in
     let long : length (args .t1) ≡ 32 = long-at (c .before .before .before .before) in
-    let turn = ap areasOf (rest-cons (args .t1) (args .count) (at .i) noStaged (omega arith) (omega arith)) in
-    let is : c .short .result ∷ areasOf (drop (at .i + 1) (take (args .count) (args .t1))) ≡ areasOf (drop (at .i) (take (args .count) (args .t1))) =
-    ap (λ (x : ℕ). x ∷ areasOf (drop (at .i + 1) (take (args .count) (args .t1)))) (c .short .ensures) ∙ sym turn in
-    let same = ap (λ (l : List ℕ). take (at .i) (at .list) ++ l) is ∙ at .inv .2 in
-    let more = gather-more (at .list) (areasOf (drop (at .i + 1) (take (args .count) (args .t1)))) (areasOf (take (args .count) (args .t1))) (at .i) (c .short .result) (omega arith) same in
-    (search needs, simp length-set (at .inv .1), more)
+    (search needs, simp length-set (at .inv .1), areas-more (args .t1) (args .count) (at .i) (omega arith) (at .list) _ (at .inv .2) _ (omega arith) (omega arith) (c .short .ensures))
 
 returns : tie.Need-returns Inv-loop μ-loop
 returns c =
@@ -63,8 +57,7 @@ returns c =
     let at = c .before .loop in
     let long : length (args .t1) ≡ 32 = long-at (c .before .before) in
     let all : at .i ≡ args .count = omega arith in
-    let end = rest-end (args .t1) (args .count) (at .i) (omega arith) (omega arith) in
-    (ap (λ (n : ℕ). take n (at .list)) (sym all) ∙ gather-end (at .list) (areasOf (drop (at .i) (take (args .count) (args .t1)))) (areasOf (take (args .count) (args .t1))) (at .i) (ap areasOf end) (at .inv .2), refl, at .inv .1)
+    (areas-end (args .t1) (args .count) (at .i) (omega arith) (at .list) _ (at .inv .2) all, refl, at .inv .1)
 
 pub areas-of-spec : {M : Type 1} → statement M
 areas-of-spec =
