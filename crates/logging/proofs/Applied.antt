@@ -8,7 +8,6 @@ use lib.ListN.{length, take, drop, length-take, length-map, List·getD-map}
 use Rattle.area.proofs.Parts.{from-to}
 use Rattle.promises.specs.declared.State.{State}
 use Rattle.promises.specs.declared.Staged.{Staged}
-use Rattle.promises.specs.declared.Dirty.{Dirty}
 use Rattle.promises.specs.Areas.{pageAt}
 use Rattle.promises.specs.Blocks.{stored}
 use Rattle.promises.specs.DirtyPages.{applyAll}
@@ -20,8 +19,7 @@ use Rattle.promises.proofs.History.Whole.{length-all}
 use Rattle.table.specs.Table.{Holds, Applies, AppliesAll}
 use Rattle.table.proofs.Scans.{rest, rest-cons, rest-end}
 use Rattle.table.proofs.Applying.{applies-none, applies-more}
-use Rattle.stepping.specs.Tables.{tableWith, tableOf}
-use Rattle.queue.specs.Queue.{commitDone}
+use Rattle.stepping.specs.Tables.{tableOf}
 use Rattle.logging.specs.Logging.{noStaged, sizeOf, stagedAt, oldestGroup, commitAt, Commits}
 
 -- the update that the code hands over is the staged one
@@ -57,16 +55,14 @@ module _ (s : State) (home staging : List ℕ) where
         (sym (rest-end (map (waiting staging) (s .staged)) (sizeOf s) i h (omega (arith, length-map (s .staged) (waiting staging)))))
         (applies-none t home frames (groupStart s))
 
--- what the store, the group's application and the queue leave is what the commit leaves
-pub commits-by : (s r : State) (log home frames staging log′ frames′ : List ℕ) (keep size : ℕ) (start table : Table) → size ≡ sizeOf s → start ≡ tableOf s
-    → log′ ≡ stored (s .slots) log (s .next) (commitAt s keep) → r ≡ commitDone s (table .dirty) size
-    → AppliesAll start home frames (oldestGroup s staging) (groupStart s) table frames′ → Commits s log home frames staging keep r log′ frames′
-commits-by s r log home frames staging log′ frames′ keep size start table n t l e a =
-    let same : r .dirty ≡ table .dirty = ap (λ (x : State). x .dirty) e in
+-- what the store and the group's application leave is what the commit leaves
+pub commits-by : (s : State) (log home frames staging log′ frames′ : List ℕ) (keep : ℕ) (start table : Table) → start ≡ tableOf s
+    → log′ ≡ stored (s .slots) log (s .next) (commitAt s keep)
+    → AppliesAll start home frames (oldestGroup s staging) (groupStart s) table frames′ → Commits s log home frames staging keep (table .dirty) log′ frames′
+commits-by s log home frames staging log′ frames′ keep start table t l a =
     let count : start .count ≡ s .frames = ap (λ (x : Table). x .count) t in
     record {
       logIs = l;
-      stateIs = e ∙ ap (commitDone s (table .dirty)) n ∙ ap (λ (d : List Dirty). commitDone s d (sizeOf s)) (sym same);
       framesLong = a .framesLong;
       holds = λ h few.
           let fits : length (applyAll (groupStart s) (pageAt home) (oldestGroup s staging) (dirtyOf s frames)) ≤ start .count =
@@ -77,6 +73,5 @@ commits-by s r log home frames staging log′ frames′ keep size start table n 
             length-take (sizeOf s) (map (waiting staging) (s .staged)),
           ) in
           let held = a .fits (dirtyOf s frames) (ap (λ (x : Table). x .full) t) (subst (λ (x : Table). Holds x frames (dirtyOf s frames)) (sym t) h) fits .1 in
-          subst (λ (d : List Dirty). Holds (tableWith s d) frames′ (applyAll (groupStart s) (pageAt home) (oldestGroup s staging) (dirtyOf s frames))) (sym same)
-          (record { looks = held .looks; tableDistinct = held .tableDistinct; entriesDistinct = held .entriesDistinct; within = rw (a .countIs ∙ count) at (held .within) });
+          record { looks = held .looks; tableDistinct = held .tableDistinct; entriesDistinct = held .entriesDistinct; within = rw (a .countIs ∙ count) at (held .within) };
     }

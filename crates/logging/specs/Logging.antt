@@ -7,6 +7,7 @@ use lib.ListN.{length, take, getD}
 use Rattle.block.specs.Sizes.{newBytesMost, pageSize, sequenceEnd}
 use Rattle.promises.specs.declared.State.{State}
 use Rattle.promises.specs.declared.Staged.{Staged}
+use Rattle.promises.specs.declared.Dirty.{Dirty}
 use Rattle.promises.specs.Areas.{pageAt, logLength, homeLength, framesLength, stagingLength}
 use Rattle.promises.specs.Updates.{Update}
 use Rattle.promises.specs.Blocks.{LogBlock, update, commit, stored}
@@ -15,7 +16,6 @@ use Rattle.promises.specs.Contents.{waiting, dirtyOf}
 use Rattle.promises.specs.Sums.{groupStart}
 use Rattle.table.specs.Table.{Holds}
 use Rattle.stepping.specs.Tables.{tableWith}
-use Rattle.queue.specs.Queue.{commitDone}
 
 abbrev pub noStaged : Staged
 noStaged = record { page = 0; offset = 0; length = 0; area = 0 }
@@ -68,11 +68,10 @@ updateAt state staging keepFrom = record {
 abbrev pub commitAt : State → ℕ → LogBlock
 commitAt state keepFrom = record { kind = commit (sizeOf state); keepFrom = keepFrom; ticket = state .ticket + 1 }
 
--- ---- what the commit leaves: the group is gone from the queue, and the frames hold its updates
-pub record Commits (state : State) (log home frames staging : List ℕ) (keepFrom : ℕ) (result : State) (log′ frames′ : List ℕ) : Type 0 where
+-- ---- what the commit leaves: its block in the log, the group's updates in the frames, and these dirty pages
+pub record Commits (state : State) (log home frames staging : List ℕ) (keepFrom : ℕ) (dirty : List Dirty) (log′ frames′ : List ℕ) : Type 0 where
   pub logIs : log′ ≡ stored (state .slots) log (state .next) (commitAt state keepFrom)
-  pub stateIs : result ≡ commitDone state (result .dirty) (sizeOf state)
   pub framesLong : length frames′ ≡ length frames
   pub holds : Holds (tableWith state (state .dirty)) frames (dirtyOf state frames)
       → length (dirtyOf state frames) + sizeOf state ≤ state .frames
-      → Holds (tableWith state (result .dirty)) frames′ (applyAll (groupStart state) (pageAt home) (oldestGroup state staging) (dirtyOf state frames))
+      → Holds (tableWith state dirty) frames′ (applyAll (groupStart state) (pageAt home) (oldestGroup state staging) (dirtyOf state frames))

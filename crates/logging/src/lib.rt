@@ -1,5 +1,6 @@
 // Log step: one block of the oldest queued group is stored; at the commit its updates go to the frames and the group leaves the queue.
 use block::Block;
+use promises::Dirty;
 use promises::LogOutcome;
 use promises::Logged;
 use promises::Refusal;
@@ -15,7 +16,6 @@ ghost use Rattle.promises.specs.Sums.{groupStart};
 ghost use Rattle.promises.specs.Sound.{sound};
 ghost use Rattle.promises.specs.LogStep.{logRefusal, LogSteps};
 ghost use Rattle.table.specs.Table.{Applies, AppliesAll};
-ghost use Rattle.promises.proofs.Changes.{updateDone};
 ghost use Rattle.logging.specs.Logging.{sizeOf, stagedAt, oldestGroup, Ready, updateAt, Commits};
 ghost use Rattle.promises.specs.Areas.{logLength, homeLength, framesLength};
 
@@ -81,12 +81,13 @@ pub fn group_size(state: State) -> usize
 }
 
 // Stores the next update of the oldest group.
-pub fn store_update(state: State, log: &mut [u8], staging: &[u8], keep_from: u64) -> State
+pub fn store_update(state: State, log: &mut [u8], staging: &[u8], keep_from: u64)
     requires { ⌜ (state .stored < sizeOf state) × Ready state (length (now log)) (homeLength (state .pages)) (framesLength (state .frames)) (length (now staging)) ⌝ }
-    ensures { λ r. ⌜ (r ≡ updateDone state) × (now (log .exit) ≡ stored (state .slots) (now (log .entry)) (state .next) (updateAt state (now (staging .entry)) «keep_from»)) ⌝ }
+    ensures { λ _. ⌜ now (log .exit) ≡ stored (state .slots) (now (log .entry)) (state .next) (updateAt state (now (staging .entry)) «keep_from») ⌝ }
 {
     let index = state.stored;
-    let staged = state.staged[index];
+    let all = state.staged;
+    let staged = all[index];
     let at = wide(staged.area) * Block::NEW_BYTES;
     let length = wide_place(staged.length);
     let block = Block::update(
@@ -99,10 +100,6 @@ pub fn store_update(state: State, log: &mut [u8], staging: &[u8], keep_from: u64
         state.ticket,
     );
     stepping::store(log, state.slots, block, &staging[at..at + length]);
-    let mut after = state;
-    after.next = state.next + 1;
-    after.stored = index + 1;
-    after
 }
 
 // Staged update i takes effect in its page's frame.
@@ -152,7 +149,7 @@ pub fn apply_group(
     applied
 }
 
-// Stores the commit of the oldest group, which then takes effect and leaves the queue.
+// Stores the commit of the oldest group, which then takes effect. The pages that are dirty then.
 pub fn store_commit(
     state: State,
     log: &mut [u8],
@@ -160,7 +157,7 @@ pub fn store_commit(
     frames: &mut [u8],
     staging: &[u8],
     keep_from: u64,
-) -> State
+) -> [Dirty; 32]
     requires { ⌜ Ready state (length (now log)) (length (now home)) (length (now frames)) (length (now staging)) ⌝ }
     ensures { λ r. ⌜ Commits state (now (log .entry)) (now (home .entry)) (now (frames .entry)) (now (staging .entry)) «keep_from» r (now (log .exit)) (now (frames .exit)) ⌝ }
 {
@@ -168,8 +165,7 @@ pub fn store_commit(
     let block = Block::commit(state.next, keep_from, size, state.ticket + 1);
     stepping::store(log, state.slots, block, &staging[..0]);
     let table = apply_group(stepping::table_of(state), state, home, frames, staging);
-    let dirty = table.dirty;
-    queue::committed(state, dirty, size)
+    table.dirty
 }
 
 // Log step: the next update of the oldest group is stored, or else its commit.
@@ -182,7 +178,11 @@ pub fn log_step(
 ) -> LogOutcome
     ensures { λ r. ⌜ LogSteps state (now (log .entry)) (now (home .entry)) (now (frames .entry)) (now (staging .entry)) r (now (log .exit)) (now (frames .exit)) ⌝ }
 {
-    let verdict = soundness::checked(state);
+    let before = state.dirty;
+    let waiting = state.staged;
+    let sizes = state.groups;
+    let figures = soundness::figures_of(state);
+    let verdict = soundness::judged(figures, before, waiting, sizes);
     let sums = verdict.sums;
     let number = log_refusal(
         verdict.sound,
@@ -200,16 +200,49 @@ pub fn log_step(
         };
     }
     let keep_from = state.next - sums.held as u64;
-    if state.stored < group_size(state) {
-        let after = store_update(state, log, staging, keep_from);
+    let size = group_size(state);
+    if state.stored < size {
+        store_update(state, log, staging, keep_from);
+        let cleaning = state.cleaning;
         return LogOutcome {
-            state: after,
+            state: State {
+                pages: state.pages,
+                slots: state.slots,
+                frames: state.frames,
+                next: state.next + 1,
+                ticket: state.ticket,
+                dirty: before,
+                staged: waiting,
+                groups: sizes,
+                queued: state.queued,
+                stored: state.stored + 1,
+                reserved: state.reserved,
+                described: state.described,
+                cleaning,
+            },
             answer: Logged::Stored,
         };
     }
-    let after = store_commit(state, log, home, frames, staging, keep_from);
+    let dirty = store_commit(state, log, home, frames, staging, keep_from);
+    let staged = queue::staged_shifted(waiting, size);
+    let groups = queue::groups_shifted(sizes);
+    let cleaning = queue::cleaning_left(state, size);
     LogOutcome {
-        state: after,
+        state: State {
+            pages: state.pages,
+            slots: state.slots,
+            frames: state.frames,
+            next: state.next + 1,
+            ticket: state.ticket + 1,
+            dirty,
+            staged,
+            groups,
+            queued: state.queued - 1,
+            stored: 0,
+            reserved: state.reserved,
+            described: state.described,
+            cleaning,
+        },
         answer: Logged::Settled(state.ticket + 1),
     }
 }

@@ -1,4 +1,4 @@
--- `logging::store_commit` meets its contract: the commit block, the group in the frames, and the queue without it.
+-- `logging::store_commit` meets its contract: the commit block, and the group in the frames.
 -- Assumes nothing.
 use mathlib.Core.Path.{refl, ap, subst}
 use Prim.Native.Nat.{ℕ}
@@ -36,9 +36,6 @@ apply-group-requires c κs =
       subst (λ (n : ℕ). Ready (a .state) n (length (a .home .now)) (length (a .frames .now)) (length (a .staging .now))) ((c .before .before .before .before .before .before .before .before .before .before .before .before .before .before) .pre .logLong) ((c .before .before .before .before .before .before .before .before .before .before .before .before .before .before) .pre),
     )
 
-committed-requires : tie.Need-committed-requires
-committed-requires c κs = search needs
-
 same-length : tie.Need-same-length
 same-length c = search needs
 
@@ -47,11 +44,10 @@ same-length-2 c = search needs
 
 returns : tie.Need-returns
 returns c =
-    let a = (c .before .before .before .before .before .before .before .before .before .before .before .before .before .before .before .before .before .before .before) .args in
-    let g = (c .before .before .before .before .before .before .before .before .before .before .before .before .before .before) .group-size .ensures in
-    commits-by (a .state) _ (a .log .now) (a .home .now) (a .frames .now) (a .staging .now) _ _ (a .keep-from) _ _ _ g ((c .before .before .before .before .before .before) .table-of .ensures)
-    (commit-stored (a .state) (a .log .now) _ (a .keep-from) _ _ _ g refl ((c .before .before .before .before .before .before .before .before .before .before .before .before) .commit .ensures) ((c .before .before .before .before .before .before .before .before .before) .store .ensures))
-    (c .committed .ensures) ((c .before .before .before .before) .apply-group .ensures)
+    let a = (c .before .before .before .before .before .before .before .before .before .before .before .before .before .before .before .before .before .before) .args in
+    commits-by (a .state) (a .log .now) (a .home .now) (a .frames .now) (a .staging .now) _ _ (a .keep-from) _ _ ((c .before .before .before .before .before) .table-of .ensures)
+    (commit-stored (a .state) (a .log .now) _ (a .keep-from) _ _ _ ((c .before .before .before .before .before .before .before .before .before .before .before .before .before) .group-size .ensures) refl ((c .before .before .before .before .before .before .before .before .before .before .before) .commit .ensures) ((c .before .before .before .before .before .before .before .before) .store .ensures))
+    ((c .before .before .before) .apply-group .ensures)
 
 pub store-commit-spec : {M : Type 1} → statement M
 store-commit-spec =
@@ -64,7 +60,6 @@ store-commit-spec =
     store-requires
     table-of-requires
     apply-group-requires
-    committed-requires
     same-length
     same-length-2
     returns)
