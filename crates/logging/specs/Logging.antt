@@ -8,12 +8,13 @@ use Rattle.block.specs.Sizes.{newBytesMost, pageSize, sequenceEnd}
 use Rattle.promises.specs.declared.State.{State}
 use Rattle.promises.specs.declared.Staged.{Staged}
 use Rattle.promises.specs.declared.Dirty.{Dirty}
-use Rattle.promises.specs.Areas.{pageAt, logLength, homeLength, framesLength, stagingLength}
+use Rattle.promises.specs.Areas.{pageAt, logLength, homeLength, framesLength, stagingLength, pagesIn}
 use Rattle.promises.specs.Updates.{Update}
 use Rattle.promises.specs.Blocks.{LogBlock, update, commit, stored}
 use Rattle.promises.specs.DirtyPages.{applyAll}
 use Rattle.promises.specs.Contents.{waiting, dirtyOf}
 use Rattle.promises.specs.Sums.{groupStart}
+use Rattle.table.specs.Search.{free}
 use Rattle.table.specs.Table.{Holds}
 use Rattle.stepping.specs.Tables.{tableWith}
 
@@ -28,9 +29,13 @@ sizeOf state = getD (state .groups) 0 0
 abbrev pub stagedAt : State → ℕ → Staged
 stagedAt state i = getD (state .staged) i noStaged
 
+-- the group of the first size staged updates
+abbrev pub groupOf : List Staged → ℕ → List ℕ → List Update
+groupOf staged size staging = take size (map (waiting staging) staged)
+
 -- the oldest group
 abbrev pub oldestGroup : State → List ℕ → List Update
-oldestGroup state staging = take (sizeOf state) (map (waiting staging) (state .staged))
+oldestGroup state staging = groupOf (state .staged) (sizeOf state) staging
 
 -- a staged update lies within home and within its staging area
 pub record Placed (pages frames : ℕ) (staged : Staged) : Type 0 where
@@ -39,6 +44,15 @@ pub record Placed (pages frames : ℕ) (staged : Staged) : Type 0 where
   pub length : staged .length ≤ newBytesMost
   pub end : staged .offset + staged .length ≤ pageSize
   pub area : staged .area < frames
+
+-- the lengths that the commit's group is applied with, and the group's number
+pub record Lent (seats home frames staging group : ℕ) : Type 0 where
+  pub few : seats ≤ 32
+  pub pages : pagesIn home ≤ 4096
+  pub framesLong : frames ≡ framesLength seats
+  pub stagingLong : staging ≡ stagingLength seats
+  pub started : 1 ≤ group
+  pub below : group < sequenceEnd
 
 -- what an accepted Log step leans on, with the lengths of the areas
 pub record Ready (state : State) (log home frames staging : ℕ) : Type 0 where
@@ -54,6 +68,7 @@ pub record Ready (state : State) (log home frames staging : ℕ) : Type 0 where
   pub queued : 1 ≤ state .queued
   pub size : sizeOf state ≤ 16
   pub half : state .stored ≤ sizeOf state
+  pub firsts : (i : ℕ) → getD (state .dirty) i free .first < sequenceEnd
   pub placed : (i : ℕ) → i < sizeOf state → Placed (state .pages) (state .frames) (stagedAt state i)
 
 -- ---- the blocks, with this keep-from
