@@ -1,28 +1,34 @@
 -- The oldest group applied to the frames, update by update, and what its commit leaves.
 -- Assumes nothing.
-use mathlib.Core.Path.{_≡_, sym, ap, _∙_, subst}
+use mathlib.Core.Path.{_≡_, refl, sym, ap, _∙_, subst}
+use mathlib.Core.Bool.{Bool, true, false, not, _&&_}
 use mathlib.Core.List.{List, _∷_, map}
 use Prim.Native.Nat.{ℕ, _+_, _-_, _*_, _≤_, _<_}
 use native.Mathlib.Omega.{arith}
-use lib.ListN.{length, take, drop, length-take, length-map, List·getD-map}
+use lib.Dec.{ltb}
+use lib.ListN.{length, take, drop, getD, length-take, length-map, List·getD-map}
+use borrow.Author.Tests.{ltb-true, ltb-false}
 use Rattle.area.proofs.Parts.{from-to}
+use Rattle.block.proofs.Tests.{never-both}
 use Rattle.promises.specs.declared.State.{State}
 use Rattle.promises.specs.declared.Staged.{Staged}
 use Rattle.promises.specs.declared.Dirty.{Dirty}
 use Rattle.promises.specs.Areas.{pageAt}
 use Rattle.promises.specs.Blocks.{stored}
-use Rattle.promises.specs.DirtyPages.{applyAll}
+use Rattle.promises.specs.DirtyPages.{DirtyPage, applyAll}
 use Rattle.promises.specs.Updates.{Update}
 use Rattle.promises.specs.Contents.{waiting, dirtyOf}
-use Rattle.promises.specs.Sums.{groupStart}
-use Rattle.table.specs.declared.Table.{Table}
+use Rattle.promises.specs.Sums.{firstGroups, groupStart}
+use Rattle.promises.proofs.Soundness.{and-both}
 use Rattle.promises.proofs.History.Whole.{length-all}
+use Rattle.table.specs.declared.Table.{Table}
 use Rattle.table.specs.Table.{Holds, Applies, AppliesAll}
+use Rattle.table.specs.Seats.{entryIn, dirtyIn, seated}
 use Rattle.table.proofs.Scans.{rest, rest-cons, rest-end}
 use Rattle.table.proofs.Applying.{applies-none, applies-more}
 use Rattle.stepping.specs.Tables.{tableWith, tableOf}
-use Rattle.queue.specs.Queue.{commitDone}
-use Rattle.logging.specs.Logging.{noStaged, sizeOf, stagedAt, oldestGroup, commitAt, Commits}
+use Rattle.logging.specs.Logging.{noStaged, sizeOf, groupOf, oldestGroup, commitAt, Commits}
+use Rattle.logging.proofs.Packing.{seats-hold}
 
 -- the update that the code hands over is the staged one
 pub staged-applied : (t r : Table) (home frames frames′ staging : List ℕ) (x : Staged) (group at long page offset : ℕ) → at ≡ x .area * 472 → long ≡ x .length
@@ -33,50 +39,84 @@ staged-applied t r home frames frames′ staging x group at long page offset a l
     subst (λ (u : Update). Applies t home frames u group r frames′)
     (ap (λ (bytes : List ℕ). record { page = page; offset = offset; bytes = bytes }) (from-to staging at long) ∙ rw (a, l, p, o))
 
-module _ (s : State) (home staging : List ℕ) where
-  -- the updates of the oldest group from index i on
-  abbrev pub groupFrom : ℕ → List Update
-  groupFrom i = rest (map (waiting staging) (s .staged)) (sizeOf s) i
+pub goes-on : (fits : Bool) (left : ℕ) → (fits && ltb 0 left) ≡ true → (fits ≡ true) × (0 < left)
+goes-on fits left e = let b = and-both fits (ltb 0 left) e in (b .0, ltb-true 0 left (b .1))
 
-  module _ (t : Table) (frames : List ℕ) (i : ℕ) (long : sizeOf s ≤ length (s .staged)) where
-    -- one more of them: the next is at index j
-    pub group-more : (t₁ r : Table) (frames₁ frames′ : List ℕ) (j : ℕ) → j ≡ i + 1 → i < sizeOf s
-        → Applies t home frames (waiting staging (stagedAt s i)) (groupStart s) t₁ frames₁
-        → AppliesAll t₁ home frames₁ (groupFrom j) (groupStart s) r frames′ → AppliesAll t home frames (groupFrom i) (groupStart s) r frames′
-    group-more t₁ r frames₁ frames′ j n h a b =
-        subst (λ (us : List Update). AppliesAll t home frames us (groupStart s) r frames′)
-        (sym (rest-cons (map (waiting staging) (s .staged)) (sizeOf s) i (waiting staging noStaged) h (omega (arith, length-map (s .staged) (waiting staging)))
-        ∙ ap (λ (u : Update). u ∷ groupFrom (i + 1)) (List·getD-map (waiting staging) (s .staged) i noStaged)
-        ∙ ap (λ (k : ℕ). waiting staging (stagedAt s i) ∷ groupFrom k) (sym n)))
-        (applies-more t t₁ r home frames frames₁ frames′ (waiting staging (stagedAt s i)) (groupFrom j) (groupStart s) a b)
+module _ (staged : List Staged) (size : ℕ) (home staging : List ℕ) (group : ℕ) where
+  -- the updates of the group from index i on
+  abbrev groupFrom : ℕ → List Update
+  groupFrom i = rest (map (waiting staging) staged) size i
 
-    -- none is left
-    pub group-end : sizeOf s ≤ i → AppliesAll t home frames (groupFrom i) (groupStart s) t frames
-    group-end h =
-        subst (λ (us : List Update). AppliesAll t home frames us (groupStart s) t frames)
-        (sym (rest-end (map (waiting staging) (s .staged)) (sizeOf s) i h (omega (arith, length-map (s .staged) (waiting staging)))))
-        (applies-none t home frames (groupStart s))
+  -- what is left to apply: the group from index i on, to this table with these frames
+  abbrev pub LeftTo : Table → List ℕ → Table → List ℕ → ℕ → Type 0
+  LeftTo table frames t frames₁ i =
+      (r : Table) (frames′ : List ℕ) → AppliesAll t home frames₁ (groupFrom i) group r frames′ → AppliesAll table home frames (groupOf staged size staging) group r frames′
 
--- what the store, the group's application and the queue leave is what the commit leaves
-pub commits-by : (s r : State) (log home frames staging log′ frames′ : List ℕ) (keep size : ℕ) (start table : Table) → size ≡ sizeOf s → start ≡ tableOf s
-    → log′ ≡ stored (s .slots) log (s .next) (commitAt s keep) → r ≡ commitDone s (table .dirty) size
-    → AppliesAll start home frames (oldestGroup s staging) (groupStart s) table frames′ → Commits s log home frames staging keep r log′ frames′
-commits-by s r log home frames staging log′ frames′ keep size start table n t l e a =
-    let same : r .dirty ≡ table .dirty = ap (λ (x : State). x .dirty) e in
-    let count : start .count ≡ s .frames = ap (λ (x : Table). x .count) t in
+  pub left-start : (table : Table) (frames : List ℕ) (i : ℕ) → i ≡ 0 → LeftTo table frames table frames i
+  left-start table frames i z r frames′ a = subst (λ (n : ℕ). AppliesAll table home frames (groupFrom n) group r frames′) z a
+
+  module _ (long : size ≤ length staged) (table : Table) (frames : List ℕ) (fits : Bool) (seats frames₁ : List ℕ) (left : ℕ)
+      (rests : LeftTo table frames (seated (not fits) seats) frames₁ (size - left)) where
+    -- one less: the next is at index j
+    pub left-less : (t : Table) (frames₂ : List ℕ) (j : ℕ) → (fits && ltb 0 left) ≡ true → left ≤ size → j ≡ size - left + 1
+        → Applies (seated false seats) home frames₁ (waiting staging (getD staged (size - left) noStaged)) group t frames₂ → LeftTo table frames t frames₂ j
+    left-less t frames₂ j g l n a r frames′ b =
+        let on : (fits ≡ true) × (0 < left) = goes-on fits left g in
+        let i : ℕ = size - left in
+        let u : Update = waiting staging (getD staged i noStaged) in
+        rests r frames′
+        (subst (λ (us : List Update). AppliesAll (seated (not fits) seats) home frames₁ us group r frames′)
+        (sym (rest-cons (map (waiting staging) staged) size i (waiting staging noStaged) (omega arith) (omega (arith, length-map staged (waiting staging)))
+        ∙ ap (λ (x : Update). x ∷ groupFrom (i + 1)) (List·getD-map (waiting staging) staged i noStaged)
+        ∙ ap (λ (k : ℕ). u ∷ groupFrom k) (sym n)))
+        (applies-more (seated (not fits) seats) t r home frames₁ frames₂ frames′ u (groupFrom j) group
+        (subst (λ (b : Bool). Applies (seated (not b) seats) home frames₁ u group t frames₂) (sym (on .0)) a) b))
+
+    -- all are applied, or a page found no frame: nothing happens any more
+    pub left-ends : (fits && ltb 0 left) ≡ false → AppliesAll table home frames (groupOf staged size staging) group (seated (not fits) seats) frames₁
+    left-ends g = rests (seated (not fits) seats) frames₁ (go fits g)
+      where
+        go : (b : Bool) → (b && ltb 0 left) ≡ false → AppliesAll (seated (not b) seats) home frames₁ (groupFrom (size - left)) group (seated (not b) seats) frames₁
+        go true e =
+            let z : left ≤ 0 = ltb-false 0 left e in
+            subst (λ (us : List Update). AppliesAll (seated false seats) home frames₁ us group (seated false seats) frames₁)
+            (sym (rest-end (map (waiting staging) staged) size (size - left) (omega arith) (omega (arith, length-map staged (waiting staging)))))
+            (applies-none (seated false seats) home frames₁ group)
+        go false e = record {
+          countIs = refl;
+          framesLong = refl;
+          stays = λ q. (refl, refl);
+          fits = λ es q h l. absurd (never-both true refl q);
+          fills = λ es q h l. refl;
+        }
+
+-- what the store, the seats and the group's application leave is what the commit leaves
+pub commits-by : (s : State) (log home frames staging log′ frames′ packed seats : List ℕ) (dirty : List Dirty) (fits : Bool) (keep size : ℕ) → size ≡ sizeOf s
+    → length packed ≡ s .frames → map entryIn packed ≡ take (s .frames) (s .dirty) → log′ ≡ stored (s .slots) log (s .next) (commitAt s keep)
+    → AppliesAll (seated false packed) home frames (groupOf (s .staged) size staging) (groupStart s) (seated (not fits) seats) frames′
+    → dirty ≡ dirtyIn seats → Commits s log home frames staging keep dirty log′ frames′
+commits-by s log home frames staging log′ frames′ packed seats dirty fits keep size n long e l b d =
+    let group : List Update = oldestGroup s staging in
+    let es : List DirtyPage = applyAll (groupStart s) (pageAt home) group (dirtyOf s frames) in
+    let a : AppliesAll (seated false packed) home frames group (groupStart s) (seated (not fits) seats) frames′ =
+    subst (λ (m : ℕ). AppliesAll (seated false packed) home frames (groupOf (s .staged) m staging) (groupStart s) (seated (not fits) seats) frames′) n b in
     record {
       logIs = l;
-      stateIs = e ∙ ap (commitDone s (table .dirty)) n ∙ ap (λ (d : List Dirty). commitDone s d (sizeOf s)) (sym same);
       framesLong = a .framesLong;
       holds = λ h few.
-          let fits : length (applyAll (groupStart s) (pageAt home) (oldestGroup s staging) (dirtyOf s frames)) ≤ start .count =
+          let room : length es ≤ length packed =
           omega (
             arith,
-            count,
-            length-all (groupStart s) (pageAt home) (oldestGroup s staging) (dirtyOf s frames),
+            long,
+            length-all (groupStart s) (pageAt home) group (dirtyOf s frames),
             length-take (sizeOf s) (map (waiting staging) (s .staged)),
           ) in
-          let held = a .fits (dirtyOf s frames) (ap (λ (x : Table). x .full) t) (subst (λ (x : Table). Holds x frames (dirtyOf s frames)) (sym t) h) fits .1 in
-          subst (λ (d : List Dirty). Holds (tableWith s d) frames′ (applyAll (groupStart s) (pageAt home) (oldestGroup s staging) (dirtyOf s frames))) (sym same)
-          (record { looks = held .looks; tableDistinct = held .tableDistinct; entriesDistinct = held .entriesDistinct; within = rw (a .countIs ∙ count) at (held .within) });
+          let held = a .fits (dirtyOf s frames) refl (seats-hold (tableOf s) packed frames (dirtyOf s frames) e h) room .1 in
+          subst (λ (x : List Dirty). Holds (tableWith s x) frames′ es) (sym d)
+          (record {
+            looks = held .looks;
+            tableDistinct = held .tableDistinct;
+            entriesDistinct = held .entriesDistinct;
+            within = subst (λ (m : ℕ). length (firstGroups (drop m (dirtyIn seats))) ≡ 0) (a .countIs ∙ long) (held .within);
+          });
     }

@@ -1,4 +1,5 @@
 pub mod Blocks
+pub mod Packing
 pub mod Applied
 pub mod Committing
 pub mod Decision

@@ -1,21 +1,22 @@
 -- An accepted Log step keeps its whole promise: the update that it stores, or the commit.
 -- Assumes nothing.
 use mathlib.Core.Path.{_≡_, refl, sym, ap, _∙_, subst}
-use mathlib.Core.List.{List, [], _∷_, map}
-use Prim.Native.Nat.{ℕ, _+_, _-_, _≤_, _<_, min}
+use mathlib.Core.List.{List, _∷_, map}
+use Prim.Native.Nat.{ℕ, _+_, _-_, _≤_, _<_}
 use native.Mathlib.Omega.{arith}
-use lib.Dec.{eqb}
-use lib.ListN.{length, getD, length-map, List·getD-map}
+use lib.ListN.{length, take, getD, length-map, List·getD-map}
 use lib.Seq.{getD-take, length-take-le}
 use Rattle.area.specs.Part.{part}
-use Rattle.block.proofs.Tests.{by-cases}
 use Rattle.promises.specs.declared.State.{State}
+use Rattle.promises.specs.declared.Staged.{Staged}
+use Rattle.promises.specs.declared.Dirty.{Dirty}
+use Rattle.promises.specs.declared.Cleaning.{Cleaning}
 use Rattle.promises.specs.declared.Logged.the-variants.{Stored, Settled}
 use Rattle.promises.specs.Areas.{pageAt}
 use Rattle.promises.specs.Updates.{Update}
 use Rattle.promises.specs.Blocks.{update, commit, stored}
-use Rattle.promises.specs.DirtyPages.{DirtyPage, apply, applyAll, keepFromOf}
-use Rattle.promises.specs.Contents.{waiting, total, queueOf, contentsOf, dirtyOf}
+use Rattle.promises.specs.DirtyPages.{keepFromOf}
+use Rattle.promises.specs.Contents.{waiting, total, queueOf, dirtyOf}
 use Rattle.promises.specs.Sums.{firstGroups, groupStart, smallest}
 use Rattle.promises.specs.LogStep.{noUpdate, updateBlock, commitBlock, dirtyAfter, logRefusalOf, UpdateStep, LogSteps}
 use Rattle.promises.proofs.Soundness.{Sound, sound-of, of-sound}
@@ -24,7 +25,7 @@ use Rattle.promises.proofs.Changes.{updateDone, update-met}
 use Rattle.promises.proofs.LogSteps.{keep-applied}
 use Rattle.promises.proofs.Promised.{log-updates, log-commits}
 use Rattle.table.proofs.Holding.{sound-holds}
-use Rattle.queue.specs.Queue.{commitDone}
+use Rattle.queue.specs.Queue.{cleaningLeft, shifted, commitDone}
 use Rattle.queue.proofs.Leaving.{queue-left, contents-left}
 use Rattle.logging.specs.Logging.{noStaged, sizeOf, stagedAt, oldestGroup, updateAt, commitAt, Commits}
 use Rattle.logging.proofs.Committing.{sound-commit}
@@ -75,35 +76,62 @@ module _ (s : State) (log home frames staging : List ℕ) (accepts : logRefusalO
       ap (λ (u : Update). record { kind = update (s .stored + 1) u; keepFrom = keep; ticket = s .ticket }) (next-update h)
       ∙ ap (λ (k : ℕ). record { kind = update (s .stored + 1) (getD group (s .stored) noUpdate); keepFrom = k; ticket = s .ticket }) keep-of
 
-  pub update-steps : (r : State) (log′ : List ℕ) → s .stored < sizeOf s → r ≡ updateDone s → log′ ≡ stored (s .slots) log (s .next) (updateAt s staging keep)
-      → LogSteps s log home frames staging (record { state = r; answer = Stored }) log′ frames
-  update-steps r log′ h e l =
-      log-updates s log home frames staging (record { state = r; answer = Stored }) log′ frames accepts refl group others queue-is (omega (arith, group-long))
-      (subst (λ (x : State). UpdateStep s group log frames staging (record { state = x; answer = Stored }) log′ frames) (sym e)
+  pub update-steps : (log′ : List ℕ) → s .stored < sizeOf s → log′ ≡ stored (s .slots) log (s .next) (updateAt s staging keep)
+      → LogSteps s log home frames staging (record { state = updateDone s; answer = Stored }) log′ frames
+  update-steps log′ h l =
+      log-updates s log home frames staging (record { state = updateDone s; answer = Stored }) log′ frames accepts refl group others queue-is (omega (arith, group-long))
       (subst (λ (x : List ℕ). UpdateStep s group log frames staging (record { state = updateDone s; answer = Stored }) x frames)
       (sym (l ∙ ap (stored (s .slots) log (s .next)) (update-is h)))
-      (update-met s group others log frames staging (tests-passed .isSound) queue-is (omega (arith, group-long)))))
+      (update-met s group others log frames staging (tests-passed .isSound) queue-is (omega (arith, group-long))))
 
   -- ---- the commit
+  abbrev withQueue : List Dirty → List Staged → List ℕ → Cleaning → State
+  withQueue dirty staged groups cleaning = record {
+    pages = s .pages;
+    slots = s .slots;
+    frames = s .frames;
+    next = s .next + 1;
+    ticket = s .ticket + 1;
+    dirty = dirty;
+    staged = staged;
+    groups = groups;
+    queued = s .queued - 1;
+    stored = 0;
+    reserved = s .reserved;
+    described = s .described;
+    cleaning = cleaning;
+  }
+
   commit-is : commitAt s keep ≡ commitBlock s group (dirtyAfter s group home frames)
   commit-is =
       ap (λ (n : ℕ). record { kind = commit n; keepFrom = keep; ticket = s .ticket + 1 }) (sym group-long)
       ∙ ap (λ (k : ℕ). record { kind = commit (length group); keepFrom = k; ticket = s .ticket + 1 })
       (keep-of ∙ sym (keep-applied (groupStart s) (pageAt home) group (dirtyOf s frames)))
 
-  pub commit-steps : (r : State) (log′ frames′ : List ℕ) → sizeOf s ≤ s .stored → Commits s log home frames staging keep r log′ frames′
-      → LogSteps s log home frames staging (record { state = r; answer = Settled (s .ticket + 1) }) log′ frames′
-  commit-steps r log′ frames′ h m =
+  commit-met : (dirty : List Dirty) (log′ frames′ : List ℕ) → sizeOf s ≤ s .stored → Commits s log home frames staging keep dirty log′ frames′
+      → LogSteps s log home frames staging (record { state = commitDone s dirty (sizeOf s); answer = Settled (s .ticket + 1) }) log′ frames′
+  commit-met dirty log′ frames′ h m =
+      let r : State = commitDone s dirty (sizeOf s) in
       let room : length (dirtyOf s frames) + sizeOf s ≤ s .frames =
       omega (arith, facts .frameSum, length-dirty frames 0 (s .dirty), ap total (size-and-rest s facts some)) in
       let held = m .holds (sound-holds s frames (tests-passed .isSound)) room in
-      let safe : Sound (commitDone s (r .dirty) (sizeOf s)) = sound-commit s facts some h (pageAt home) frames frames′ staging (r .dirty) held in
       log-commits s log home frames staging (record { state = r; answer = Settled (s .ticket + 1) }) log′ frames′ accepts refl group others queue-is (omega (arith, group-long))
       (record {
         answerIs = refl;
         logIs = m .logIs ∙ ap (stored (s .slots) log (s .next)) commit-is;
         framesLong = m .framesLong;
-        staysSound = of-sound r (subst Sound (sym (m .stateIs)) safe);
-        contentsAre = ap (λ (x : State). contentsOf x staging) (m .stateIs) ∙ contents-left s (r .dirty) staging group others facts some queue-is;
+        staysSound = of-sound r (sound-commit s facts some h (pageAt home) frames frames′ staging dirty held);
+        contentsAre = contents-left s dirty staging group others facts some queue-is;
         dirtyAre = held .looks;
       })
+
+  -- the state with the group's size, and with the queue and the cleaning that the code puts in
+  pub commit-steps : (dirty : List Dirty) (log′ frames′ : List ℕ) (size : ℕ) (staged : List Staged) (groups : List ℕ) (cleaning : Cleaning) → size ≡ sizeOf s
+      → staged ≡ shifted (s .staged) size → groups ≡ shifted (s .groups) 1 → cleaning ≡ cleaningLeft (take size (s .staged)) (s .cleaning)
+      → sizeOf s ≤ s .stored → Commits s log home frames staging keep dirty log′ frames′
+      → LogSteps s log home frames staging (record { state = withQueue dirty staged groups cleaning; answer = Settled (s .ticket + 1) }) log′ frames′
+  commit-steps dirty log′ frames′ size staged groups cleaning n a b c h m =
+      subst (λ (x : State). LogSteps s log home frames staging (record { state = x; answer = Settled (s .ticket + 1) }) log′ frames′)
+      (sym (ap (λ (x : List Staged). withQueue dirty x groups cleaning) a ∙ ap (λ (x : List ℕ). withQueue dirty (shifted (s .staged) size) x cleaning) b
+      ∙ ap (withQueue dirty (shifted (s .staged) size) (shifted (s .groups) 1)) c ∙ ap (commitDone s dirty) n))
+      (commit-met dirty log′ frames′ h m)

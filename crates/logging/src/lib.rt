@@ -1,23 +1,27 @@
 // Log step: one block of the oldest queued group is stored; at the commit its updates go to the frames and the group leaves the queue.
 use block::Block;
+use promises::Dirty;
 use promises::LogOutcome;
 use promises::Logged;
 use promises::Refusal;
+use promises::Staged;
 use promises::State;
-use table::Table;
 ghost use mathlib.Core.Path.{_≡_};
-ghost use Prim.Native.Nat.{_+_, _-_, _<_};
-ghost use lib.ListN.{length};
+ghost use mathlib.Core.Bool.{false, not};
+ghost use mathlib.Core.List.{map};
+ghost use Prim.Native.Nat.{ℕ, _≤_, _<_};
+ghost use lib.ListN.{length, take, getD};
+ghost use Rattle.block.specs.Sizes.{sequenceEnd};
 ghost use Rattle.promises.specs.Answers.{numberOf};
 ghost use Rattle.promises.specs.Blocks.{stored};
 ghost use Rattle.promises.specs.Contents.{waiting};
-ghost use Rattle.promises.specs.Sums.{groupStart};
 ghost use Rattle.promises.specs.Sound.{sound};
 ghost use Rattle.promises.specs.LogStep.{logRefusal, LogSteps};
+ghost use Rattle.table.specs.Search.{free};
+ghost use Rattle.table.specs.Seats.{entryIn, seated};
 ghost use Rattle.table.specs.Table.{Applies, AppliesAll};
-ghost use Rattle.promises.proofs.Changes.{updateDone};
-ghost use Rattle.logging.specs.Logging.{sizeOf, stagedAt, oldestGroup, Ready, updateAt, Commits};
-ghost use Rattle.promises.specs.Areas.{logLength, homeLength, framesLength};
+ghost use Rattle.logging.specs.Logging.{noStaged, sizeOf, groupOf, Placed, Lent, Ready, updateAt, Commits};
+ghost use Rattle.promises.specs.Areas.{homeLength, framesLength, pagesIn};
 
 // A byte as a count.
 fn wide(byte: u8) -> usize
@@ -77,16 +81,18 @@ fn refusal_of(number: u64) -> Refusal
 pub fn group_size(state: State) -> usize
     ensures { λ r. ⌜ r ≡ sizeOf state ⌝ }
 {
-    wide(state.groups[0])
+    let groups = state.groups;
+    wide(groups[0])
 }
 
 // Stores the next update of the oldest group.
-pub fn store_update(state: State, log: &mut [u8], staging: &[u8], keep_from: u64) -> State
+pub fn store_update(state: State, log: &mut [u8], staging: &[u8], keep_from: u64)
     requires { ⌜ (state .stored < sizeOf state) × Ready state (length (now log)) (homeLength (state .pages)) (framesLength (state .frames)) (length (now staging)) ⌝ }
-    ensures { λ r. ⌜ (r ≡ updateDone state) × (now (log .exit) ≡ stored (state .slots) (now (log .entry)) (state .next) (updateAt state (now (staging .entry)) «keep_from»)) ⌝ }
+    ensures { λ _. ⌜ now (log .exit) ≡ stored (state .slots) (now (log .entry)) (state .next) (updateAt state (now (staging .entry)) «keep_from») ⌝ }
 {
     let index = state.stored;
-    let staged = state.staged[index];
+    let all = state.staged;
+    let staged = all[index];
     let at = wide(staged.area) * Block::NEW_BYTES;
     let length = wide_place(staged.length);
     let block = Block::update(
@@ -99,60 +105,72 @@ pub fn store_update(state: State, log: &mut [u8], staging: &[u8], keep_from: u64
         state.ticket,
     );
     stepping::store(log, state.slots, block, &staging[at..at + length]);
-    let mut after = state;
-    after.next = state.next + 1;
-    after.stored = index + 1;
-    after
 }
 
-// Staged update i takes effect in its page's frame.
+// The dirty pages of a state as seats, a number for each frame.
+fn pack(dirty: [Dirty; 32], seats: &mut [u64])
+    requires { ⌜ (length (now seats) ≤ 32) × ((i : ℕ) → getD dirty i free .first < sequenceEnd) ⌝ }
+    ensures { λ _. ⌜ (length (now (seats .exit)) ≡ length (now (seats .entry))) × (map entryIn (now (seats .exit)) ≡ take (length (now (seats .entry))) dirty) ⌝ }
+{
+    let mut i = 0;
+    while i < seats.len() {
+        let entry = dirty[i];
+        seats[i] = entry.first * 65536 + entry.page as u64;
+        i += 1;
+    }
+}
+
+// A staged update of the group that started at this sequence takes effect in its page's frame. False: there is no frame for the page, and
+// nothing changes.
 pub fn apply_staged(
-    table: Table,
-    state: State,
+    seats: &mut [u64],
+    staged: Staged,
+    group: u64,
     home: &[u8],
     frames: &mut [u8],
     staging: &[u8],
-    i: usize,
-) -> Table
-    requires { ⌜ (i < sizeOf state) × (table .count ≡ state .frames) × Ready state (logLength (state .slots)) (length (now home)) (length (now frames)) (length (now staging)) ⌝ }
-    ensures { λ r. ⌜ Applies table (now (home .entry)) (now (frames .entry)) (waiting (now (staging .entry)) (stagedAt state i)) (groupStart state) r (now (frames .exit)) ⌝ }
+) -> bool
+    requires { ⌜ Lent (length (now seats)) (length (now home)) (length (now frames)) (length (now staging)) group × Placed (pagesIn (length (now home))) (length (now seats)) staged ⌝ }
+    ensures { λ r. ⌜ Applies (seated false (now (seats .entry))) (now (home .entry)) (now (frames .entry)) (waiting (now (staging .entry)) staged) group (seated (not r) (now (seats .exit))) (now (frames .exit)) ⌝ }
 {
-    let staged = state.staged[i];
     let at = wide(staged.area) * Block::NEW_BYTES;
     let length = wide_place(staged.length);
-    table::apply(
-        table,
+    table::seats::apply(
+        seats,
         home,
         frames,
         wide_place(staged.page),
         wide_place(staged.offset),
         &staging[at..at + length],
-        state.next - state.stored as u64,
+        group,
     )
 }
 
-// The oldest group takes effect, update by update.
+// The group of the first size staged updates takes effect, update by update. False: a page found no frame, and the rest is left out.
 pub fn apply_group(
-    table: Table,
-    state: State,
+    seats: &mut [u64],
+    staged: [Staged; 32],
+    size: usize,
+    group: u64,
     home: &[u8],
     frames: &mut [u8],
     staging: &[u8],
-) -> Table
-    requires { ⌜ (table .count ≡ state .frames) × Ready state (logLength (state .slots)) (length (now home)) (length (now frames)) (length (now staging)) ⌝ }
-    ensures { λ r. ⌜ AppliesAll table (now (home .entry)) (now (frames .entry)) (oldestGroup state (now (staging .entry))) (groupStart state) r (now (frames .exit)) ⌝ }
+) -> bool
+    requires { ⌜ Lent (length (now seats)) (length (now home)) (length (now frames)) (length (now staging)) group × (size ≤ 32) × ((i : ℕ) → i < size → Placed (pagesIn (length (now home))) (length (now seats)) (getD staged i noStaged)) ⌝ }
+    ensures { λ r. ⌜ AppliesAll (seated false (now (seats .entry))) (now (home .entry)) (now (frames .entry)) (groupOf staged size (now (staging .entry))) group (seated (not r) (now (seats .exit))) (now (frames .exit)) ⌝ }
 {
-    let size = group_size(state);
-    let mut applied = table;
+    let mut fits = true;
     let mut left = size;
-    while 0 < left {
-        applied = apply_staged(applied, state, home, frames, staging, size - left);
+    while fits & (0 < left) {
+        let i = size - left;
+        let update = staged[i];
+        fits = apply_staged(seats, update, group, home, frames, staging);
         left -= 1;
     }
-    applied
+    fits
 }
 
-// Stores the commit of the oldest group, which then takes effect and leaves the queue.
+// Stores the commit of the oldest group, which then takes effect. The pages that are dirty then.
 pub fn store_commit(
     state: State,
     log: &mut [u8],
@@ -160,16 +178,28 @@ pub fn store_commit(
     frames: &mut [u8],
     staging: &[u8],
     keep_from: u64,
-) -> State
+) -> [Dirty; 32]
     requires { ⌜ Ready state (length (now log)) (length (now home)) (length (now frames)) (length (now staging)) ⌝ }
     ensures { λ r. ⌜ Commits state (now (log .entry)) (now (home .entry)) (now (frames .entry)) (now (staging .entry)) «keep_from» r (now (log .exit)) (now (frames .exit)) ⌝ }
 {
     let size = group_size(state);
     let block = Block::commit(state.next, keep_from, size, state.ticket + 1);
     stepping::store(log, state.slots, block, &staging[..0]);
-    let table = apply_group(stepping::table_of(state), state, home, frames, staging);
-    let dirty = table.dirty;
-    queue::committed(state, dirty, size)
+    let count = state.frames;
+    let before = state.dirty;
+    let staged = state.staged;
+    let mut seats = [0; 32];
+    pack(before, &mut seats[..count]);
+    apply_group(
+        &mut seats[..count],
+        staged,
+        size,
+        state.next - state.stored as u64,
+        home,
+        frames,
+        staging,
+    );
+    table::seats::entries(&seats[..count])
 }
 
 // Log step: the next update of the oldest group is stored, or else its commit.
@@ -182,7 +212,11 @@ pub fn log_step(
 ) -> LogOutcome
     ensures { λ r. ⌜ LogSteps state (now (log .entry)) (now (home .entry)) (now (frames .entry)) (now (staging .entry)) r (now (log .exit)) (now (frames .exit)) ⌝ }
 {
-    let verdict = soundness::checked(state);
+    let before = state.dirty;
+    let waiting = state.staged;
+    let sizes = state.groups;
+    let figures = soundness::figures_of(state);
+    let verdict = soundness::judged(figures, before, waiting, sizes);
     let sums = verdict.sums;
     let number = log_refusal(
         verdict.sound,
@@ -200,16 +234,49 @@ pub fn log_step(
         };
     }
     let keep_from = state.next - sums.held as u64;
-    if state.stored < group_size(state) {
-        let after = store_update(state, log, staging, keep_from);
+    let size = group_size(state);
+    if state.stored < size {
+        store_update(state, log, staging, keep_from);
+        let cleaning = state.cleaning;
         return LogOutcome {
-            state: after,
+            state: State {
+                pages: state.pages,
+                slots: state.slots,
+                frames: state.frames,
+                next: state.next + 1,
+                ticket: state.ticket,
+                dirty: before,
+                staged: waiting,
+                groups: sizes,
+                queued: state.queued,
+                stored: state.stored + 1,
+                reserved: state.reserved,
+                described: state.described,
+                cleaning,
+            },
             answer: Logged::Stored,
         };
     }
-    let after = store_commit(state, log, home, frames, staging, keep_from);
+    let dirty = store_commit(state, log, home, frames, staging, keep_from);
+    let staged = queue::staged_shifted(waiting, size);
+    let groups = queue::groups_shifted(sizes);
+    let cleaning = queue::cleaning_left(state, size);
     LogOutcome {
-        state: after,
+        state: State {
+            pages: state.pages,
+            slots: state.slots,
+            frames: state.frames,
+            next: state.next + 1,
+            ticket: state.ticket + 1,
+            dirty,
+            staged,
+            groups,
+            queued: state.queued - 1,
+            stored: 0,
+            reserved: state.reserved,
+            described: state.described,
+            cleaning,
+        },
         answer: Logged::Settled(state.ticket + 1),
     }
 }

@@ -14,9 +14,10 @@ pub fn page_changed(state: State, count: usize, page: u16) -> bool
     requires { ⌜ count ≤ 32 ⌝ }
     ensures { λ r. ⌜ r ≡ changes page (take count (state .staged)) ⌝ }
 {
+    let staged = state.staged;
     let mut i = 0;
     while i < count {
-        if page == state.staged[i].page {
+        if page == staged[i].page {
             return true;
         }
         i += 1;

@@ -1,92 +1,93 @@
 -- `logging::apply_group` meets its contract: what the loop still has to apply makes the whole.
 -- Assumes nothing.
-use Prim.Native.Nat.{ℕ, _≤_, _-_}
+use Prim.Native.Nat.{ℕ, _≤_, _<_, _-_}
 use mathlib.Core.Path.{_≡_, refl, sym, _∙_, subst}
-use mathlib.Core.List.{List}
-use lib.ListN.{length}
-use Rattle.promises.specs.Areas.{logLength}
-use Rattle.promises.specs.Sums.{groupStart}
-use Rattle.table.specs.declared.Table.{Table}
-use Rattle.table.specs.Table.{AppliesAll}
+use mathlib.Core.Bool.{false, not}
+use lib.ListN.{length, getD}
+use Rattle.promises.specs.Areas.{pagesIn}
+use Rattle.table.specs.Seats.{seated}
 use Rattle.table.proofs.Scans.{length-mapped}
-use Rattle.logging.specs.Logging.{oldestGroup, Ready}
-use Rattle.logging.proofs.Applied.{groupFrom, group-more, group-end}
+use Rattle.logging.specs.Logging.{noStaged, Placed}
+use Rattle.logging.proofs.Applied.{goes-on, LeftTo, left-start, left-less, left-ends}
 use borrow.Author.Needs.{needs}
 use native.Mathlib.Omega.{arith}
 use Rattle.logging.proofs.apply_group.Statement.{statement}
 use Rattle.logging.proofs.apply_group.Tie as tie
 
 abbrev Inv-loop : tie.InvT-loop
-Inv-loop state home frames₀ staging size applied₀ left₀ frames applied left =
-    (left ≤ size) × (length frames ≡ length frames₀) × (applied .count ≡ applied₀ .count)
-    × ((r : Table) (frames′ : List ℕ) → AppliesAll applied home frames (groupFrom state home staging (size - left)) (groupStart state) r frames′
-    → AppliesAll applied₀ home frames₀ (oldestGroup state staging) (groupStart state) r frames′)
+Inv-loop seats₀ size group home frames₀ staging staged fits₀ left₀ seats frames fits left =
+    (left ≤ size) × (length seats ≡ length seats₀) × (length frames ≡ length frames₀)
+    × LeftTo staged size home staging group (seated false seats₀) frames₀ (seated (not fits) seats) frames (size - left)
 
 abbrev μ-loop : tie.MeasureT-loop
-μ-loop state home frames₀ staging size applied₀ left₀ frames applied left = left
+μ-loop seats₀ size group home frames₀ staging staged fits₀ left₀ seats frames fits left = left
 
-long-at : (c : tie.Start Inv-loop μ-loop) → length (c .args .state .staged) ≡ 32
-long-at c = search (needs, length-mapped)
-
-group-size-requires : tie.Need-group-size-requires Inv-loop μ-loop
-group-size-requires c κs = search needs
+few-at : (c : tie.Start Inv-loop μ-loop) → c .args .size ≤ length (c .args .t2)
+few-at c = let long : length (c .args .t2) ≡ 32 = search (needs, length-mapped) in omega (arith, c .pre .1)
 
 loop-holds : tie.Need-loop-holds Inv-loop μ-loop
 loop-holds c =
     let a = (c .before .before .before .before) .args in
-    let z : c .group-size .result - c .group-size .result ≡ 0 = omega arith in (
-      omega arith,
-      refl,
-      refl,
-      λ r frames′ x. subst (λ (n : ℕ). AppliesAll (a .table) (a .home .now) (a .frames .now) (groupFrom (a .state) (a .home .now) (a .staging .now) n) (groupStart (a .state)) r frames′) z x,
-    )
+    (omega arith, refl, refl, left-start (a .t2) (a .size) (a .home .now) (a .staging .now) (a .group) (seated false (a .seats .now)) (a .frames .now) (a .size - a .size) (omega arith))
 
-sub-apply-staged : tie.Need-sub-apply-staged Inv-loop μ-loop
-sub-apply-staged c = search needs
+sub-i : tie.Need-sub-i Inv-loop μ-loop
+sub-i c = search needs
+
+mul-update : tie.Need-mul-update Inv-loop μ-loop
+mul-update c =
+    let on : 0 < (c .before) .loop .left = goes-on ((c .before) .loop .fits) ((c .before) .loop .left) (c .loop-test .taken) .1 in
+    omega arith
+
+array-copy-out-update : tie.Need-array-copy-out-update Inv-loop μ-loop
+array-copy-out-update c =
+    let on : 0 < (c .before) .loop .left = goes-on ((c .before) .loop .fits) ((c .before) .loop .left) (c .loop-test .taken) .1 in
+    omega arith
 
 apply-staged-requires : tie.Need-apply-staged-requires Inv-loop μ-loop
 apply-staged-requires c κs =
-    let a = (c .before .before .before .before .before .before .before) .args in
-    let l = (c .before .before) .loop in (
-      omega (arith, (c .before .before .before) .group-size .ensures),
-      l .inv .2 ∙ (c .before .before .before .before .before .before .before) .pre .0,
-      subst (λ (n : ℕ). Ready (a .state) (logLength (a .state .slots)) (length (a .home .now)) n (length (a .staging .now))) (sym (l .inv .1)) ((c .before .before .before .before .before .before .before) .pre .1),
+    let a = (c .before .before .before .before .before .before .before .before .before) .args in
+    let p = (c .before .before .before .before .before .before .before .before .before) .pre .0 in
+    let l = (c .before .before .before .before) .loop in
+    let on : 0 < (c .before .before .before .before) .loop .left = goes-on ((c .before .before .before .before) .loop .fits) ((c .before .before .before .before) .loop .left) ((c .before .before .before) .loop-test .taken) .1 in (
+      record { few = omega (arith, p .few); pages = p .pages; framesLong = omega (arith, p .framesLong); stagingLong = omega (arith, p .stagingLong); started = p .started; below = p .below },
+      subst (λ (n : ℕ). Placed (pagesIn (length (a .home .now))) n (getD (a .t2) (a .size - l .left) noStaged)) (sym (l .inv .1)) ((c .before .before .before .before .before .before .before .before .before) .pre .2 (a .size - l .left) (omega arith)),
     )
 
 sub-left : tie.Need-sub-left Inv-loop μ-loop
-sub-left c = search needs
+sub-left c =
+    let on : 0 < (c .before .before .before .before .before .before .before .before .before) .loop .left = goes-on ((c .before .before .before .before .before .before .before .before .before) .loop .fits) ((c .before .before .before .before .before .before .before .before .before) .loop .left) ((c .before .before .before .before .before .before .before .before) .loop-test .taken) .1 in
+    omega arith
 
 loop-less : tie.Need-loop-less Inv-loop μ-loop
-loop-less c = search needs
+loop-less c =
+    let on : 0 < (c .before .before .before .before .before .before .before .before .before) .loop .left = goes-on ((c .before .before .before .before .before .before .before .before .before) .loop .fits) ((c .before .before .before .before .before .before .before .before .before) .loop .left) ((c .before .before .before .before .before .before .before .before) .loop-test .taken) .1 in
+    omega arith
 
 loop-again : tie.Need-loop-again Inv-loop μ-loop
 loop-again c =
-    let a = (c .before .before .before .before .before .before .before .before .before .before) .args in
-    let l = (c .before .before .before .before .before) .loop in
-    let r = (c .before .before) .apply-staged in
-    let g = (c .before .before .before .before .before .before) .group-size .ensures in
-    let few = (c .before .before .before .before .before .before .before .before .before .before) .pre .1 .size in
-    let n : ℕ = (c .before .before .before .before .before .before) .group-size .result in (
+    let a = (c .before .before .before .before .before .before .before .before .before .before .before .before .before .before) .args in
+    let l = (c .before .before .before .before .before .before .before .before .before) .loop in
+    let s = (c .before .before .before .before) .apply-staged in
+    let on : 0 < (c .before .before .before .before .before .before .before .before .before) .loop .left = goes-on ((c .before .before .before .before .before .before .before .before .before) .loop .fits) ((c .before .before .before .before .before .before .before .before .before) .loop .left) ((c .before .before .before .before .before .before .before .before) .loop-test .taken) .1 in (
       omega arith,
-      r .ensures .framesLong ∙ l .inv .1,
-      r .ensures .countIs ∙ l .inv .2,
-      λ result frames′ x. l .inv .3 result frames′
-          (group-more (a .state) (a .home .now) (a .staging .now) (l .applied) (l .frames) (n - l .left) (omega (arith, long-at (c .before .before .before .before .before .before .before .before .before .before))) _ result _ frames′
-          (n - (l .left - 1)) (omega arith) (omega (arith, g)) (r .ensures) x),
+      s .ensures .countIs ∙ l .inv .1,
+      s .ensures .framesLong ∙ l .inv .2,
+      left-less (a .t2) (a .size) (a .home .now) (a .staging .now) (a .group) (few-at (c .before .before .before .before .before .before .before .before .before .before .before .before .before .before)) (seated false (a .seats .now)) (a .frames .now) (l .fits) (l .seats) (l .frames) (l .left) (l .inv .3) _ _ (a .size - (l .left - 1))
+          ((c .before .before .before .before .before .before .before .before) .loop-test .taken) (l .inv .0) (omega arith) (s .ensures),
     )
 
 same-length : tie.Need-same-length Inv-loop μ-loop
 same-length c = search needs
 
+same-length-2 : tie.Need-same-length-2 Inv-loop μ-loop
+same-length-2 c = search needs
+
 returns : tie.Need-returns Inv-loop μ-loop
 returns c =
     let a = (c .before .before .before .before .before .before) .args in
     let l = (c .before) .loop in
-    let g = (c .before .before) .group-size .ensures in
-    let few = (c .before .before .before .before .before .before) .pre .1 .size in
-    let n : ℕ = (c .before .before) .group-size .result in
-    l .inv .3 (l .applied) (l .frames)
-    (group-end (a .state) (a .home .now) (a .staging .now) (l .applied) (l .frames) (n - l .left) (omega (arith, long-at ((c .before .before .before .before .before .before)))) (omega (arith, g)))
+    left-ends (a .t2) (a .size) (a .home .now) (a .staging .now) (a .group) (few-at (c .before .before .before .before .before .before)) (seated false (a .seats .now)) (a .frames .now) (l .fits) (l .seats) (l .frames) (l .left) (l .inv .3)
+    (c .loop-test .left)
 
 pub apply-group-spec : {M : Type 1} → statement M
 apply-group-spec =
@@ -94,12 +95,14 @@ apply-group-spec =
     (tie.spec
     Inv-loop
     μ-loop
-    group-size-requires
     loop-holds
-    sub-apply-staged
+    sub-i
+    mul-update
+    array-copy-out-update
     apply-staged-requires
     sub-left
     loop-less
     loop-again
     same-length
+    same-length-2
     returns)

@@ -1,6 +1,6 @@
 -- `logging::store_update` meets its contract: the staged update's fields and bytes are those of the block.
 -- Assumes nothing.
-use mathlib.Core.Path.{refl, ap}
+use mathlib.Core.Path.{ap}
 use Prim.Native.Nat.{ℕ, _*_}
 use Rattle.logging.specs.Logging.{Placed, stagedAt}
 use Rattle.logging.proofs.Blocks.{update-stored}
@@ -9,20 +9,20 @@ use borrow.Author.Needs.{needs}
 use Rattle.logging.proofs.store_update.Statement.{statement}
 use Rattle.logging.proofs.store_update.Tie as tie
 
-placed-at : (c : tie.Start) → Placed (c .args .t1 .pages) (c .args .t1 .frames) (stagedAt (c .args .t1) (c .args .t1 .stored))
-placed-at c = c .pre .1 .placed (c .args .t1 .stored) (c .pre .0)
+placed-at : (c : tie.Start) → Placed (c .args .state .pages) (c .args .state .frames) (stagedAt (c .args .state) (c .args .state .stored))
+placed-at c = c .pre .1 .placed (c .args .state .stored) (c .pre .0)
 
 mul-staged : tie.Need-mul-staged
 mul-staged c = search needs
 
-element-copy-out-staged : tie.Need-element-copy-out-staged
-element-copy-out-staged c = search needs
+array-copy-out-staged : tie.Need-array-copy-out-staged
+array-copy-out-staged c = search needs
 
 wide-requires : tie.Need-wide-requires
 wide-requires c κs = search needs
 
 mul-at : tie.Need-mul-at
-mul-at c = let p = placed-at ((c .before .before .before .before)) in omega arith
+mul-at c = let p = placed-at (c .before .before .before .before .before) in omega arith
 
 wide-place-requires : tie.Need-wide-place-requires
 wide-place-requires c κs = search needs
@@ -40,7 +40,7 @@ update-requires : tie.Need-update-requires
 update-requires c κs = search needs
 
 add-store : tie.Need-add-store
-add-store c = let p = placed-at ((c .before .before .before .before .before .before .before .before .before)) in omega arith
+add-store c = let p = placed-at (c .before .before .before .before .before .before .before .before .before .before) in omega arith
 
 sub-store : tie.Need-sub-store
 sub-store c = search needs
@@ -49,37 +49,28 @@ part-store-start : tie.Need-part-store-start
 part-store-start c = search needs
 
 part-store-end : tie.Need-part-store-end
-part-store-end c = let p = placed-at ((c .before .before .before .before .before .before .before .before .before)) in omega arith
+part-store-end c = let p = placed-at (c .before .before .before .before .before .before .before .before .before .before) in omega arith
 
 store-requires : tie.Need-store-requires
-store-requires c κs = let p = placed-at ((c .before .before .before .before .before .before .before .before .before .before)) in omega arith
-
-add-after : tie.Need-add-after
-add-after c = search needs
-
-add-after-2 : tie.Need-add-after-2
-add-after-2 c = search needs
+store-requires c κs = let p = placed-at (c .before .before .before .before .before .before .before .before .before .before .before) in omega arith
 
 same-length : tie.Need-same-length
 same-length c = search needs
 
 returns : tie.Need-returns
 returns c =
-    let a = (c .before .before .before .before .before .before .before .before .before .before .before .before .before) .args in
-    let p = placed-at ((c .before .before .before .before .before .before .before .before .before .before .before .before .before)) in (
-      refl,
-      update-stored (a .t1) (a .log .now) _ (a .keep-from) _ (a .staging .now) _ _ _ _
-          (ap (λ (n : ℕ). n * 472) ((c .before .before .before .before .before .before .before .before .before) .wide .ensures)) ((c .before .before .before .before .before .before .before .before) .wide-place .ensures)
-          ((c .before .before .before .before .before .before .before) .wide-place2 .ensures) ((c .before .before .before .before .before .before) .wide-place3 .ensures) (omega arith)
-          ((c .before .before .before .before .before) .update .ensures) ((c .before .before) .store .ensures),
-    )
+    let a = (c .before .before .before .before .before .before .before .before .before .before .before .before .before .before) .args in
+    let p = placed-at (c .before .before .before .before .before .before .before .before .before .before .before .before .before .before) in
+    update-stored (a .state) (a .log .now) _ (a .keep-from) _ (a .staging .now) _ _ _ _
+    (ap (λ (n : ℕ). n * 472) ((c .before .before .before .before .before .before .before .before .before) .wide .ensures)) ((c .before .before .before .before .before .before .before .before) .wide-place .ensures) ((c .before .before .before .before .before .before .before) .wide-place2 .ensures)
+    ((c .before .before .before .before .before .before) .wide-place3 .ensures) (omega arith) ((c .before .before .before .before .before) .update .ensures) ((c .before .before) .store .ensures)
 
 pub store-update-spec : {M : Type 1} → statement M
 store-update-spec =
     tie.close
     (tie.spec
     mul-staged
-    element-copy-out-staged
+    array-copy-out-staged
     wide-requires
     mul-at
     wide-place-requires
@@ -92,7 +83,5 @@ store-update-spec =
     part-store-start
     part-store-end
     store-requires
-    add-after
-    add-after-2
     same-length
     returns)

@@ -12,10 +12,10 @@ use Rattle.queue.proofs.page_changed.Statement.{statement}
 use Rattle.queue.proofs.page_changed.Tie as tie
 
 abbrev Inv-loop : tie.InvT-loop
-Inv-loop count page state i₀ i = (i ≤ count) × (changes page (rest (state .staged) count i) ≡ changes page (take count (state .staged)))
+Inv-loop count page staged i₀ i = (i ≤ count) × (changes page (rest staged count i) ≡ changes page (take count staged))
 
 abbrev μ-loop : tie.MeasureT-loop
-μ-loop count page state i₀ i = count - i
+μ-loop count page staged i₀ i = count - i
 
 loop-holds : tie.Need-loop-holds Inv-loop μ-loop
 loop-holds c = (search needs, refl)
@@ -28,10 +28,10 @@ element-copy-out-if1 c = search needs
 
 returns : tie.Need-returns Inv-loop μ-loop
 returns c =
-    let a = (c .before .before .before) .args in
+    let a = (c .before .before .before .before) .args in
     let l = (c .before .before) .loop in
-    let long : length (a .t1 .staged) ≡ 32 = search (needs, length-mapped) in
-    sym (changed-here (a .page) (a .t1 .staged) (a .count) (l .i) (omega arith) (omega arith) (c .if1 .taken)) ∙ l .inv .1
+    let long : length (a .state .staged) ≡ 32 = search (needs, length-mapped) in
+    sym (changed-here (a .page) (a .state .staged) (a .count) (l .i) (omega arith) (omega arith) (c .if1 .taken)) ∙ l .inv .1
 
 add-i : tie.Need-add-i Inv-loop μ-loop
 add-i c = search needs
@@ -41,17 +41,17 @@ loop-less c = search needs
 
 loop-again : tie.Need-loop-again Inv-loop μ-loop
 loop-again c =
-    let a = (c .before .before .before) .args in
+    let a = (c .before .before .before .before) .args in
     let l = (c .before .before) .loop in
-    let long : length (a .t1 .staged) ≡ 32 = search (needs, length-mapped) in
-    (omega arith, changed-later (a .page) (a .t1 .staged) (a .count) (l .i) (omega arith) (omega arith) (c .if1 .left) ∙ l .inv .1)
+    let long : length (a .state .staged) ≡ 32 = search (needs, length-mapped) in
+    (omega arith, changed-later (a .page) (a .state .staged) (a .count) (l .i) (omega arith) (omega arith) (c .if1 .left) ∙ l .inv .1)
 
 returns-2 : tie.Need-returns-2 Inv-loop μ-loop
 returns-2 c =
-    let a = (c .before .before) .args in
+    let a = (c .before .before .before) .args in
     let l = (c .before) .loop in
-    let long : length (a .t1 .staged) ≡ 32 = search (needs, length-mapped) in
-    sym (changed-nowhere (a .page) (a .t1 .staged) (a .count) (l .i) (omega arith) (omega arith)) ∙ l .inv .1
+    let long : length (a .state .staged) ≡ 32 = search (needs, length-mapped) in
+    sym (changed-nowhere (a .page) (a .state .staged) (a .count) (l .i) (omega arith) (omega arith)) ∙ l .inv .1
 
 pub page-changed-spec : {M : Type 1} → statement M
 page-changed-spec =
