@@ -1,8 +1,7 @@
-// Log step: one block of the oldest queued group is stored; at the commit its updates go to the frames and the group leaves the queue.
+// Log step in parts: what it is refused with, the store of an update, and the store of a commit, whose updates go to the frames. The
+// call itself stands in the store.
 use block::Block;
 use promises::Dirty;
-use promises::LogOutcome;
-use promises::Logged;
 use promises::Refusal;
 use promises::Staged;
 use promises::State;
@@ -16,7 +15,7 @@ ghost use Rattle.promises.specs.Answers.{numberOf};
 ghost use Rattle.promises.specs.Blocks.{stored};
 ghost use Rattle.promises.specs.Contents.{waiting};
 ghost use Rattle.promises.specs.Sound.{sound};
-ghost use Rattle.promises.specs.LogStep.{logRefusal, LogSteps};
+ghost use Rattle.promises.specs.LogStep.{logRefusal};
 ghost use Rattle.table.specs.Search.{free};
 ghost use Rattle.table.specs.Seats.{entryIn, seated};
 ghost use Rattle.table.specs.Table.{Applies, AppliesAll};
@@ -64,7 +63,7 @@ pub fn log_refusal(
 }
 
 // The refusal with one of these numbers.
-fn refusal_of(number: u64) -> Refusal
+pub fn refusal_of(number: u64) -> Refusal
     requires { ⌜ ((number ≡ 1 → ⊥) → (number ≡ 2 → ⊥) → number ≡ 10) ⌝ }
     ensures { λ r. ⌜ numberOf r ≡ number ⌝ }
 {
@@ -200,83 +199,4 @@ pub fn store_commit(
         staging,
     );
     table::seats::entries(&seats[..count])
-}
-
-// Log step: the next update of the oldest group is stored, or else its commit.
-pub fn log_step(
-    state: State,
-    log: &mut [u8],
-    home: &[u8],
-    frames: &mut [u8],
-    staging: &[u8],
-) -> LogOutcome
-    ensures { λ r. ⌜ LogSteps state (now (log .entry)) (now (home .entry)) (now (frames .entry)) (now (staging .entry)) r (now (log .exit)) (now (frames .exit)) ⌝ }
-{
-    let before = state.dirty;
-    let waiting = state.staged;
-    let sizes = state.groups;
-    let figures = soundness::figures_of(state);
-    let verdict = soundness::judged(figures, before, waiting, sizes);
-    let sums = verdict.sums;
-    let number = log_refusal(
-        verdict.sound,
-        state,
-        log.len(),
-        home.len(),
-        frames.len(),
-        staging.len(),
-    );
-    if number != 0 {
-        let refusal = refusal_of(number);
-        return LogOutcome {
-            state,
-            answer: Logged::Refused(refusal),
-        };
-    }
-    let keep_from = state.next - sums.held as u64;
-    let size = group_size(state);
-    if state.stored < size {
-        store_update(state, log, staging, keep_from);
-        let cleaning = state.cleaning;
-        return LogOutcome {
-            state: State {
-                pages: state.pages,
-                slots: state.slots,
-                frames: state.frames,
-                next: state.next + 1,
-                ticket: state.ticket,
-                dirty: before,
-                staged: waiting,
-                groups: sizes,
-                queued: state.queued,
-                stored: state.stored + 1,
-                reserved: state.reserved,
-                described: state.described,
-                cleaning,
-            },
-            answer: Logged::Stored,
-        };
-    }
-    let dirty = store_commit(state, log, home, frames, staging, keep_from);
-    let staged = queue::staged_shifted(waiting, size);
-    let groups = queue::groups_shifted(sizes);
-    let cleaning = queue::cleaning_left(state, size);
-    LogOutcome {
-        state: State {
-            pages: state.pages,
-            slots: state.slots,
-            frames: state.frames,
-            next: state.next + 1,
-            ticket: state.ticket + 1,
-            dirty,
-            staged,
-            groups,
-            queued: state.queued - 1,
-            stored: 0,
-            reserved: state.reserved,
-            described: state.described,
-            cleaning,
-        },
-        answer: Logged::Settled(state.ticket + 1),
-    }
 }

@@ -7,6 +7,7 @@ use promises::Answer;
 use promises::EndOutcome;
 use promises::Ended;
 use promises::LogOutcome;
+use promises::Logged;
 use promises::OpenOutcome;
 use promises::Outcome;
 use promises::Staged;
@@ -202,7 +203,73 @@ pub fn log_step(
 ) -> LogOutcome
     ensures { λ r. ⌜ LogSteps state (now (log .entry)) (now (home .entry)) (now (frames .entry)) (now (staging .entry)) r (now (log .exit)) (now (frames .exit)) ⌝ }
 {
-    logging::log_step(state, log, home, frames, staging)
+    let before = state.dirty;
+    let waiting = state.staged;
+    let sizes = state.groups;
+    let figures = soundness::figures_of(state);
+    let verdict = soundness::judged(figures, before, waiting, sizes);
+    let sums = verdict.sums;
+    let number = logging::log_refusal(
+        verdict.sound,
+        state,
+        log.len(),
+        home.len(),
+        frames.len(),
+        staging.len(),
+    );
+    if number != 0 {
+        let refusal = logging::refusal_of(number);
+        return LogOutcome {
+            state,
+            answer: Logged::Refused(refusal),
+        };
+    }
+    let keep_from = state.next - sums.held as u64;
+    let size = logging::group_size(state);
+    if state.stored < size {
+        logging::store_update(state, log, staging, keep_from);
+        let cleaning = state.cleaning;
+        return LogOutcome {
+            state: State {
+                pages: state.pages,
+                slots: state.slots,
+                frames: state.frames,
+                next: state.next + 1,
+                ticket: state.ticket,
+                dirty: before,
+                staged: waiting,
+                groups: sizes,
+                queued: state.queued,
+                stored: state.stored + 1,
+                reserved: state.reserved,
+                described: state.described,
+                cleaning,
+            },
+            answer: Logged::Stored,
+        };
+    }
+    let dirty = logging::store_commit(state, log, home, frames, staging, keep_from);
+    let staged = queue::staged_shifted(waiting, size);
+    let groups = queue::groups_shifted(sizes);
+    let cleaning = queue::cleaning_left(state, size);
+    LogOutcome {
+        state: State {
+            pages: state.pages,
+            slots: state.slots,
+            frames: state.frames,
+            next: state.next + 1,
+            ticket: state.ticket + 1,
+            dirty,
+            staged,
+            groups,
+            queued: state.queued - 1,
+            stored: 0,
+            reserved: state.reserved,
+            described: state.described,
+            cleaning,
+        },
+        answer: Logged::Settled(state.ticket + 1),
+    }
 }
 
 // Makes one store of a cleaning: the first half of a dirty page, its second half, its clean block.

@@ -1,4 +1,4 @@
--- `logging::log_step` meets its contract, Log step's promise: refused, the update that is next, or the commit.
+-- `log_step` meets its contract, Log step's promise: refused, the update that is next, or the commit.
 -- Assumes nothing.
 use mathlib.Core.Path.{_≡_, sym, _∙_}
 use Prim.Native.Nat.{_≤_}
@@ -8,13 +8,13 @@ use Rattle.soundness.specs.Summed.{Summed}
 use Rattle.soundness.specs.Parts.{Judges}
 use Rattle.soundness.proofs.Whole.{judged-whole}
 use Rattle.stepping.proofs.Refused.{log-refused}
 use Rattle.logging.specs.Logging.{Ready}
 use Rattle.logging.proofs.Decision.{accepted, ready, ready-alone, held-within, kept-from}
 use Rattle.logging.proofs.Stepped.{update-steps, commit-steps}
 use native.Mathlib.Omega.{arith}
 use borrow.Author.Needs.{needs}
-use Rattle.logging.proofs.log_step.Statement.{statement}
-use Rattle.logging.proofs.log_step.Tie as tie
+use Rattle.store.proofs.log_step.Statement.{statement}
+use Rattle.store.proofs.log_step.Tie as tie
 
 -- the verdict is one on the state
 judged-at : (c : tie.After-judged) → Judges (c .before .before .before .before .before .before .before .before .before .args .state) (c .judged .result)
