@@ -1,13 +1,13 @@
 -- The frame that is cleaned next: the least rank of all, and what soundness says of a frame's entry.
 -- Assumes nothing.
 use mathlib.Core.Path.{_≡_, refl, sym, ap, _∙_, subst}
-use mathlib.Core.Bool.{Bool, true, false, cond, not, _&&_}
+use mathlib.Core.Bool.{Bool, true, false, cond, not, _&&_, _||_}
 use mathlib.Core.List.{List, [], _∷_}
-use Prim.Native.Nat.{ℕ, zero, suc, _+_, _-_, _*_, _^_, _≤_, _<_}
+use Prim.Native.Nat.{ℕ, zero, suc, _+_, _-_, _*_, _^_, _≤_, _<_, min}
 use native.Mathlib.Omega.{arith}
 use lib.Dec.{eqb, ltb}
-use lib.ListN.{length, take, drop, getD, set}
-use lib.Seq.{getD-take, getD-set-same, getD-set-other, set-getD, drop-set-lt, length-take-le, lt-length-set}
+use lib.ListN.{length, drop, getD, set}
+use lib.Seq.{getD-set-same, getD-set-other, set-getD, lt-length-set}
 use borrow.Author.Tests.{eqb-true, eqb-false, eq-eqb, ne-eqb, ltb-true, not-true}
 use Rattle.area.proofs.Parts.{either}
 use Rattle.block.proofs.Tests.{never-both}
@@ -21,8 +21,9 @@ use Rattle.promises.specs.Sound.{member, allBelow, dirtyNumbers}
 use Rattle.promises.proofs.Soundness.{and-both, Sound}
 use Rattle.promises.proofs.Table.{lookUp-set}
 use Rattle.promises.proofs.History.Sees.{by-eq}
-use Rattle.table.specs.Search.{free, isOf, placeOf}
-use Rattle.table.proofs.Entries.{own-apart, place-true, none-held}
+use Rattle.soundness.proofs.Scans.{pages-more, pages-same, pages-end, firsts-more, firsts-same, firsts-end}
+use Rattle.table.specs.Search.{free, isOf}
+use Rattle.table.proofs.Entries.{own-apart}
 use Rattle.table.proofs.Scans.{lower, not-lower}
 use Rattle.cleaning.specs.Cleans.{entryAt, rankOf, Named}
 
@@ -34,53 +35,146 @@ rank-free entry e = simp (eq-eqb _ _ e)
 pub rank-used : (entry : Dirty) → (entry .first ≡ 0 → ⊥) → rankOf entry ≡ entry .first * 65536 + entry .page
 rank-used entry n = simp (ne-eqb _ _ n)
 
--- a search for the least value of f: one more is seen, and is taken or not
-module _ (f : ℕ → ℕ) (best new i : ℕ) (least : (j : ℕ) → j < i → f best ≤ f j) where
-  pub least-taken : new ≡ i → f i < f best → (j : ℕ) → j < i + 1 → f new ≤ f j
-  least-taken n h j l = by-eq j i (λ e. omega (arith, ap f e, ap f n)) (λ d. omega (arith, least j (omega arith), ap f n))
+-- a frame in use is one of those below a count from which on none is
+used-below : (count : ℕ) (ds : List Dirty) (i : ℕ) → length (firstGroups (drop count ds)) ≡ 0 → (getD ds i free .first ≡ 0 → ⊥) → i < count
+unfolding firstGroups
+used-below count [] i h n = absurd (n refl)
+used-below zero (d ∷ ds) zero h n = go (eqb (d .first) 0) refl h
+  where
+    go : (t : Bool) → eqb (d .first) 0 ≡ t → length (unless t (d .first) (firstGroups ds)) ≡ 0 → 0 < 0
+    go true e h = absurd (n (eqb-true _ _ e))
+    go false e h = absurd (omega arith)
+used-below zero (d ∷ ds) (suc i) h n = go (eqb (d .first) 0) h (used-below zero ds i)
+  where
+    go : (t : Bool) → length (unless t (d .first) (firstGroups ds)) ≡ 0 → (length (firstGroups ds) ≡ 0 → (getD ds i free .first ≡ 0 → ⊥) → i < 0) → suc i < 0
+    go true h ih = absurd (omega (arith, ih h n))
+    go false h ih = absurd (omega arith)
+used-below (suc count) (d ∷ ds) zero h n = omega arith
+used-below (suc count) (d ∷ ds) (suc i) h n = omega (arith, used-below count ds i h n)
 
-  pub least-kept : new ≡ best → f best ≤ f i → (j : ℕ) → j < i + 1 → f new ≤ f j
-  least-kept n h j l = by-eq j i (λ e. omega (arith, ap f e, ap f n)) (λ d. omega (arith, least j (omega arith), ap f n))
+-- ---- searches that end with the last dirty page
 
-pub least-first : (f : ℕ → ℕ) (j : ℕ) → j < 1 → f 0 ≤ f j
-least-first f j h = let e : j ≡ 0 = omega arith in omega (arith, ap f e)
+-- an entry is left where a dirty page is
+pub more-left : (ds : List Dirty) (i : ℕ) → 0 < length (firstGroups (drop i ds)) → i < length ds
+more-left ds i h = either i (length ds) (λ l. l) (λ l. absurd (omega (arith, ap length (firsts-end ds i l))))
+
+-- the count of those that are left, past an entry in use or free
+module _ (ds : List Dirty) (left i : ℕ) (e : left ≡ length (firstGroups (drop i ds))) (h : i < length ds) where
+  pub left-used : (getD ds i free .first ≡ 0 → ⊥) → left - 1 ≡ length (firstGroups (drop (i + 1) ds))
+  left-used n = omega (arith, ap length (firsts-more ds i h n))
+
+  pub left-free : getD ds i free .first ≡ 0 → left ≡ length (firstGroups (drop (i + 1) ds))
+  left-free z = omega (arith, ap length (firsts-same ds i h z))
+
+-- a search for the least rank: it is no more than any that is passed, and that of the best frame, or the greatest
+pub record Leads (ds : List Dirty) (best least i : ℕ) : Type 0 where
+  pub passed : (j : ℕ) → j < i → (least ≤ rankOf (getD ds j free)) × (rankOf (getD ds j free) ≤ 2 ^ 64 - 1)
+  pub reached : min (rankOf (getD ds best free)) (2 ^ 64 - 1) ≤ least
+  pub most : least ≤ 2 ^ 64 - 1
+
+pub leads-start : (ds : List Dirty) → Leads ds 0 (2 ^ 64 - 1) 0
+leads-start ds = record { passed = λ j h. absurd (omega arith); reached = omega arith; most = omega arith }
+
+module _ (ds : List Dirty) (best least i : ℕ) (l : Leads ds best least i) where
+  -- one more frame is seen
+  passed-more : (low own : ℕ) → own ≡ rankOf (getD ds i free) → own ≤ 2 ^ 64 - 1 → low ≤ least → low ≤ own → (j : ℕ) → j < i + 1
+      → (low ≤ rankOf (getD ds j free)) × (rankOf (getD ds j free) ≤ 2 ^ 64 - 1)
+  passed-more low own e few h k j below =
+      by-eq j i (λ q. let same = ap (λ (n : ℕ). rankOf (getD ds n free)) q in (omega (arith, same), omega (arith, same)))
+      (λ n. let p = l .passed j (omega arith) in (omega (arith, p .0), p .1))
+
+  pub leads-lower : (own : ℕ) → own ≡ rankOf (getD ds i free) → own < least → Leads ds i own (i + 1)
+  leads-lower own e h =
+      record { passed = passed-more own own e (omega (arith, l .most)) (omega arith) (omega arith); reached = omega arith; most = omega (arith, l .most) }
+
+  pub leads-kept : (own : ℕ) → own ≡ rankOf (getD ds i free) → own ≤ 2 ^ 64 - 1 → least ≤ own → Leads ds best least (i + 1)
+  leads-kept own e few h = record { passed = passed-more least own e few (omega arith) h; reached = l .reached; most = l .most }
+
+  pub leads-free : getD ds i free .first ≡ 0 → Leads ds best least (i + 1)
+  leads-free z = leads-kept (2 ^ 64 - 1) (sym (rank-free (getD ds i free) z)) (omega arith) (l .most)
+
+  -- those that are left are free
+  module _ (none : length (firstGroups (drop i ds)) ≡ 0) where
+    best-few : rankOf (getD ds best free) ≤ 2 ^ 64 - 1
+    best-few =
+        by-eq (getD ds best free .first) 0 (λ z. omega (arith, rank-free (getD ds best free) z)) (λ n. l .passed best (used-below i ds best none n) .1)
+
+    pub leads-end : (j : ℕ) → rankOf (getD ds best free) ≤ rankOf (getD ds j free)
+    leads-end j =
+        by-eq (getD ds j free .first) 0 (λ z. omega (arith, best-few, rank-free (getD ds j free) z))
+        (λ n. omega (arith, best-few, l .reached, l .passed j (used-below i ds j none n) .0))
+
+-- ---- a search for a named page: it is among those that are left
+module _ (page : ℕ) (ds : List Dirty) (i : ℕ) (m : member page (dirtyNumbers (drop i ds)) ≡ true) where
+  pub named-left : i < length ds → isOf page (getD ds i free) ≡ false → member page (dirtyNumbers (drop (i + 1) ds)) ≡ true
+  named-left h e =
+      by-eq (getD ds i free .first) 0 (λ z. ap (member page) (sym (pages-same ds i h z)) ∙ m)
+      (λ n. go (eqb page (getD ds i free .page)) (rw (ne-eqb _ _ n) at e) (ap (member page) (sym (pages-more ds i h n)) ∙ m))
+    where
+      go : (t : Bool) → t ≡ false → (t || member page (dirtyNumbers (drop (i + 1) ds))) ≡ true → member page (dirtyNumbers (drop (i + 1) ds)) ≡ true
+      go true f q = absurd (never-both true refl f)
+      go false f q = q
+
+  pub named-end : length ds ≤ i → ⊥
+  named-end h = never-both _ m (ap (member page) (pages-end ds i h))
 
 -- ---- a search for the oldest first group, one frame taken as free
 
--- the test of one entry against the lowest so far
+-- the test of one entry in use against the lowest so far, and a free entry
 module _ (low : ℕ) (ds : List Dirty) (frame i : ℕ) (h : i < length ds) where
   long : i < length (set ds frame free)
   long = lt-length-set ds frame free h
 
-  pub lower-but : (not (eqb i frame) && (not (eqb (getD ds i free .first) 0) && ltb (getD ds i free .first) low)) ≡ true
+  abbrev Passed : Dirty → Type 0
+  Passed d = (not (eqb (d .first) 0) && ltb (d .first) low) ≡ false
+
+  pub lower-but : (getD ds i free .first ≡ 0 → ⊥) → (not (eqb i frame) && ltb (getD ds i free .first) low) ≡ true
       → smallest (getD ds i free .first) (firstGroups (drop (i + 1) (set ds frame free))) ≡ smallest low (firstGroups (drop i (set ds frame free)))
-  lower-but e =
-      let both = and-both (not (eqb i frame)) (not (eqb (getD ds i free .first) 0) && ltb (getD ds i free .first) low) e in
+  lower-but n e =
+      let both = and-both (not (eqb i frame)) (ltb (getD ds i free .first) low) e in
       let same : getD ds i free ≡ getD (set ds frame free) i free = sym (getD-set-other ds frame i free free (eqb-false _ _ (not-true _ (both .0)))) in
       ap (λ (d : Dirty). smallest (d .first) (firstGroups (drop (i + 1) (set ds frame free)))) same
-      ∙ lower low (set ds frame free) i long (subst (λ (d : Dirty). (not (eqb (d .first) 0) && ltb (d .first) low) ≡ true) same (both .1)) .0
+      ∙ lower low (set ds frame free) i long (subst (λ (d : Dirty). (not (eqb (d .first) 0) && ltb (d .first) low) ≡ true) same (rw (ne-eqb _ _ n) (both .1))) .0
 
-  pub not-lower-but : (not (eqb i frame) && (not (eqb (getD ds i free .first) 0) && ltb (getD ds i free .first) low)) ≡ false
-      → smallest low (firstGroups (drop (i + 1) (set ds frame free))) ≡ smallest low (firstGroups (drop i (set ds frame free)))
-  not-lower-but e = not-lower low (set ds frame free) i long (by-eq i frame own other)
+  -- the frame that is taken as free, and one whose entry does not pass the test
+  passed-by : ((i ≡ frame → ⊥) → Passed (getD ds i free)) → smallest low (firstGroups (drop (i + 1) (set ds frame free))) ≡ smallest low (firstGroups (drop i (set ds frame free)))
+  passed-by p = not-lower low (set ds frame free) i long (by-eq i frame own (λ n. subst Passed (sym (getD-set-other ds frame i free free n)) (p n)))
     where
-      Passed : Dirty → Type 0
-      Passed d = (not (eqb (d .first) 0) && ltb (d .first) low) ≡ false
-
       own : i ≡ frame → Passed (getD (set ds frame free) i free)
       own q = subst Passed (sym (ap (λ (j : ℕ). getD (set ds j free) i free) (sym q) ∙ getD-set-same ds i free free h)) refl
 
-      other : (i ≡ frame → ⊥) → Passed (getD (set ds frame free) i free)
-      other n = subst Passed (sym (getD-set-other ds frame i free free n)) (rw (ne-eqb i frame n) at e)
+  pub not-lower-but : (getD ds i free .first ≡ 0 → ⊥) → (not (eqb i frame) && ltb (getD ds i free .first) low) ≡ false
+      → smallest low (firstGroups (drop (i + 1) (set ds frame free))) ≡ smallest low (firstGroups (drop i (set ds frame free)))
+  not-lower-but n e = passed-by (λ m. rw (ne-eqb _ _ n) (rw (ne-eqb i frame m) at e))
+
+  pub free-but : getD ds i free .first ≡ 0 → smallest low (firstGroups (drop (i + 1) (set ds frame free))) ≡ smallest low (firstGroups (drop i (set ds frame free)))
+  free-but z = passed-by (λ m. rw (eq-eqb _ _ z))
 
 smallest-none : (low : ℕ) (xs : List ℕ) → length xs ≡ 0 → smallest low xs ≡ low
 smallest-none low [] e = refl
 smallest-none low (x ∷ xs) e = absurd (omega arith)
 
--- none is in use from count on
-pub lowest-but : (low count : ℕ) (ds : List Dirty) (frame : ℕ) → frame < count → length (firstGroups (drop count ds)) ≡ 0
-    → smallest low (firstGroups (drop count (set ds frame free))) ≡ low
-lowest-but low count ds frame h e = ap (λ (xs : List Dirty). smallest low (firstGroups xs)) (drop-set-lt count ds frame free h) ∙ smallest-none low (firstGroups (drop count ds)) e
+-- none is in use from i on, the more so once one is free
+none-but : (i : ℕ) (ds : List Dirty) (frame : ℕ) → length (firstGroups (drop i ds)) ≡ 0 → length (firstGroups (drop i (set ds frame free))) ≡ 0
+unfolding firstGroups
+none-but zero [] frame e = e
+none-but zero (d ∷ ds) zero e = go (eqb (d .first) 0) e
+  where
+    go : (t : Bool) → length (unless t (d .first) (firstGroups ds)) ≡ 0 → length (firstGroups ds) ≡ 0
+    go true e = e
+    go false e = absurd (omega arith)
+none-but zero (d ∷ ds) (suc frame) e = go (eqb (d .first) 0) e (none-but zero ds frame)
+  where
+    go : (t : Bool) → length (unless t (d .first) (firstGroups ds)) ≡ 0 → (length (firstGroups ds) ≡ 0 → length (firstGroups (set ds frame free)) ≡ 0)
+        → length (unless t (d .first) (firstGroups (set ds frame free))) ≡ 0
+    go true e ih = ih e
+    go false e ih = absurd (omega arith)
+none-but (suc i) [] frame e = e
+none-but (suc i) (d ∷ ds) zero e = e
+none-but (suc i) (d ∷ ds) (suc frame) e = none-but i ds frame e
+
+pub lowest-but : (low i : ℕ) (ds : List Dirty) (frame : ℕ) → length (firstGroups (drop i ds)) ≡ 0 → smallest low (firstGroups (drop i (set ds frame free))) ≡ low
+lowest-but low i ds frame e = smallest-none low (firstGroups (drop i (set ds frame free))) (none-but i ds frame e)
 
 -- ---- one entry of those that soundness speaks of
 
@@ -108,23 +202,6 @@ page-at pages (d ∷ ds) i h n = go (eqb (d .first) 0) refl h (page-at pages ds)
     go true e h ih (suc i) n = ih i h n
     go false e h ih zero n = ltb-true _ _ (and-both (ltb (d .page) pages) (allBelow pages (dirtyNumbers ds)) h .0)
     go false e h ih (suc i) n = ih i (and-both (ltb (d .page) pages) (allBelow pages (dirtyNumbers ds)) h .1) n
-
--- a frame in use is one of those below a count from which on none is
-used-below : (count : ℕ) (ds : List Dirty) (i : ℕ) → length (firstGroups (drop count ds)) ≡ 0 → (getD ds i free .first ≡ 0 → ⊥) → i < count
-unfolding firstGroups
-used-below count [] i h n = absurd (n refl)
-used-below zero (d ∷ ds) zero h n = go (eqb (d .first) 0) refl h
-  where
-    go : (t : Bool) → eqb (d .first) 0 ≡ t → length (unless t (d .first) (firstGroups ds)) ≡ 0 → 0 < 0
-    go true e h = absurd (n (eqb-true _ _ e))
-    go false e h = absurd (omega arith)
-used-below zero (d ∷ ds) (suc i) h n = go (eqb (d .first) 0) h (used-below zero ds i)
-  where
-    go : (t : Bool) → length (unless t (d .first) (firstGroups ds)) ≡ 0 → (length (firstGroups ds) ≡ 0 → (getD ds i free .first ≡ 0 → ⊥) → i < 0) → suc i < 0
-    go true h ih = absurd (omega (arith, ih h n))
-    go false h ih = absurd (omega arith)
-used-below (suc count) (d ∷ ds) zero h n = omega arith
-used-below (suc count) (d ∷ ds) (suc i) h n = omega (arith, used-below count ds i h n)
 
 -- every frame is free: no page is dirty
 none-used : (ds : List Dirty) → ((i : ℕ) → i < length ds → getD ds i free .first ≡ 0) → length (firstGroups ds) ≡ 0
@@ -160,18 +237,11 @@ module _ (s : State) (f : Sound s) where
       omega (arith, rank-used (entryAt s frame) n, rank-used (entryAt s other) m, pages-small other m, f .pages .1)
 
   -- ---- the frame of a named page
-  pub named-by : (page frame : ℕ) → s .frames ≤ length (s .dirty) → member page (dirtyNumbers (s .dirty)) ≡ true
-      → frame ≡ placeOf (isOf page) (take (s .frames) (s .dirty)) → Named s page frame
-  named-by page frame long m e = either frame (s .frames) here (λ l. absurd (never-both (member page (dirtyNumbers (s .dirty))) m (none-held page (s .frames) (s .dirty) long (omega (arith, e)) (f .framesBelow))))
-    where
-      here : frame < s .frames → Named s page frame
-      here l =
-          let long-front : length (take (s .frames) (s .dirty)) ≡ s .frames = length-take-le (s .frames) (s .dirty) long in
-          let told : isOf page (getD (take (s .frames) (s .dirty)) frame free) ≡ true =
-          subst (λ (i : ℕ). isOf page (getD (take (s .frames) (s .dirty)) i free) ≡ true) (sym e) (place-true (isOf page) (take (s .frames) (s .dirty)) (omega (arith, e))) in
-          let same : getD (take (s .frames) (s .dirty)) frame free ≡ entryAt s frame = getD-take (s .frames) (s .dirty) frame free l in
-          let both = and-both (not (eqb (entryAt s frame .first) 0)) (eqb page (entryAt s frame .page)) (subst (λ (d : Dirty). isOf page d ≡ true) same told) in
-          record { below = l; used = eqb-false _ _ (not-true _ (both .0)); pageIs = eqb-true _ _ (both .1) }
+  pub named-here : (page frame : ℕ) → isOf page (entryAt s frame) ≡ true → Named s page frame
+  named-here page frame e =
+      let both = and-both (not (eqb (entryAt s frame .first) 0)) (eqb page (entryAt s frame .page)) e in
+      let used : entryAt s frame .first ≡ 0 → ⊥ = eqb-false _ _ (not-true _ (both .0)) in
+      record { below = frames-below frame used; used = used; pageIs = eqb-true _ _ (both .1) }
 
   -- ---- looking pages up
 

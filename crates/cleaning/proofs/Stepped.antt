@@ -5,7 +5,7 @@ use mathlib.Core.Bool.{true}
 use mathlib.Core.List.{List, []}
 use Prim.Native.Nat.{ℕ, _*_, _^_, _≤_, _<_}
 use native.Mathlib.Omega.{arith}
-use lib.ListN.{length, drop}
+use lib.ListN.{length}
 use Rattle.block.proofs.Tests.{tests}
 use Rattle.promises.specs.declared.State.{State}
 use Rattle.promises.specs.declared.Cleaning.{Cleaning}
@@ -14,7 +14,7 @@ use Rattle.promises.specs.Areas.{pageAt, firstHalf, secondHalf, withFirstHalf, 
 use Rattle.promises.specs.Blocks.{clean, stored}
 use Rattle.promises.specs.DirtyPages.{DirtyPage, at, lookUp, without}
 use Rattle.promises.specs.Contents.{contentsOf, dirtyOf}
-use Rattle.promises.specs.Sums.{firstGroups, dirtyCount, sequencesTaken}
+use Rattle.promises.specs.Sums.{dirtyCount, sequencesTaken}
 use Rattle.promises.specs.Sound.{sound, names, member, dirtyNumbers}
 use Rattle.promises.specs.declared.Answer.{Answer}
 use Rattle.promises.specs.declared.Answer.the-variants.{Refused, Done}
@@ -144,12 +144,11 @@ module _ (s : State) (log home frames : List ℕ) (accepts : cleanRefusalOf s lo
   -- what the clean block's store leans on
   pub third-ready : (named : ℕ) → s .cleaning ≡ Third named
       → (frame < s .frames) × (s .frames ≤ 32) × (1 ≤ s .slots) × (s .slots ≤ 1024) × (length log ≡ s .slots * 512) × (s .next < 2 ^ 48) × (entryAt s frame .first ≡ 0 → ⊥)
-      × (length (firstGroups (drop (s .frames) (s .dirty))) ≡ 0)
   third-ready named e =
       let g = simp tests at (tests-passed .fit) in
       let n : sequencesTaken s ≡ 2 ^ 48 → ⊥ = third-passed named e .1 in
       let few = facts .frames .1 in
-      (chosen .below, few, omega (arith, facts .slots .0), facts .slots .1, omega arith, omega (arith, facts .sequenceSum, n), chosen .used, facts .framesBelow)
+      (chosen .below, few, omega (arith, facts .slots .0), facts .slots .1, omega arith, omega (arith, facts .sequenceSum, n), chosen .used)
 
   pub third-steps : (named : ℕ) (r : State) (log′ : List ℕ) → s .cleaning ≡ Third named → Cleaned s log frame r log′ → CleanSteps s log home frames (doneWith r) log′ home
   unfolding cleanStore

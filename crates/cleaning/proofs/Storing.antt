@@ -38,8 +38,9 @@ use Rattle.cleaning.specs.Cleans.{entryAt, stateWith, cleanDone, Cleaned
 
 -- ---- a change that keeps every entry
 
-pub entry-kept : (s : State) (frame next : ℕ) (c : Cleaning) → stateWith s (set (s .dirty) frame (entryAt s frame)) next c ≡ stateWith s (s .dirty) next c
-entry-kept s frame next c = ap (λ (ds : List Dirty). stateWith s ds next c) (set-getD (s .dirty) frame free)
+pub entry-kept : (s : State) (frame : ℕ) (entry : Dirty) → entry ≡ entryAt s frame → (next : ℕ) (c : Cleaning)
+    → stateWith s (set (s .dirty) frame entry) next c ≡ stateWith s (s .dirty) next c
+entry-kept s frame entry e next c = ap (λ (ds : List Dirty). stateWith s ds next c) (ap (set (s .dirty) frame) e ∙ set-getD (s .dirty) frame free)
 
 -- ---- the halves
 

@@ -11,7 +11,7 @@ use soundness::sums::Sums;
 ghost use mathlib.Core.Path.{_≡_};
 ghost use mathlib.Core.Bool.{true};
 ghost use Prim.Native.Nat.{ℕ, _+_, _*_, _^_, _≤_, _<_};
-ghost use lib.ListN.{length, drop, set};
+ghost use lib.ListN.{length, set};
 ghost use Rattle.promises.specs.Answers.{refusalIn};
 ghost use Rattle.promises.specs.Areas.{logLength, pageAt, firstHalf, secondHalf, withFirstHalf, withSecondHalf};
 ghost use Rattle.promises.specs.Sums.{dirtyCount, firstGroups, smallest};
@@ -118,44 +118,64 @@ pub fn rank(entry: Dirty) -> u64
     entry.first * 65536 + entry.page as u64
 }
 
-// The frame that comes first in the order of cleaning.
-pub fn first_frame(state: State) -> usize
-    requires { ⌜ ((frame : ℕ) → entryAt state frame .first < 2 ^ 48) ⌝ }
-    ensures { λ r. ⌜ (r < 32) × ((other : ℕ) → other < 32 → rankOf (entryAt state r) ≤ rankOf (entryAt state other)) ⌝ }
+// A frame and its entry.
+pub struct Choice {
+    pub frame: usize,
+    pub entry: Dirty,
+}
+
+// The frame that comes first in the order of cleaning, where so many pages are dirty.
+pub fn first_frame(state: State, count: usize) -> Choice
+    requires { ⌜ (count ≡ dirtyCount state) × ((frame : ℕ) → entryAt state frame .first < 2 ^ 48) ⌝ }
+    ensures { λ r. ⌜ (r .frame < 32) × (r .entry ≡ entryAt state (r .frame)) × ((other : ℕ) → other < 32 → rankOf (entryAt state (r .frame)) ≤ rankOf (entryAt state other)) ⌝ }
 {
-    let leader = state.dirty[0];
+    let dirty = state.dirty;
     let mut best = 0;
-    let mut least = rank(leader);
-    let mut i = 1;
-    while i < 32 {
-        let entry = state.dirty[i];
-        let own = rank(entry);
-        if own < least {
-            best = i;
-            least = own;
+    let mut least: u64 = 18446744073709551615;
+    let mut left = count;
+    let mut i = 0;
+    while 0 < left {
+        let entry = dirty[i];
+        if entry.first != 0 {
+            let own = rank(entry);
+            if own < least {
+                best = i;
+                least = own;
+            }
+            left -= 1;
         }
         i += 1;
     }
-    best
+    let entry = dirty[best];
+    Choice { frame: best, entry }
 }
 
-// The frame of a dirty page.
-pub fn named_frame(state: State, page: u16) -> usize
+// The frame of a dirty page. In a sound state the search ends at it.
+pub fn named_frame(state: State, page: u16) -> Choice
     requires { ⌜ (sound state ≡ true) × (member page (dirtyNumbers (state .dirty)) ≡ true) ⌝ }
-    ensures { λ r. ⌜ Named state page r ⌝ }
+    ensures { λ r. ⌜ Named state page (r .frame) × (r .entry ≡ entryAt state (r .frame)) ⌝ }
 {
-    let number = wide(page);
-    table::frame_of(stepping::table_of(state), number)
+    let dirty = state.dirty;
+    let mut i = 0;
+    while i < 32 {
+        let entry = dirty[i];
+        if (entry.first != 0) & (page == entry.page) {
+            return Choice { frame: i, entry };
+        }
+        i += 1;
+    }
+    let entry = Dirty { page, first: 0 };
+    Choice { frame: i, entry }
 }
 
-// The frame of the page that is cleaned: the named one's, or where none is named the one that comes first.
-pub fn frame_to_clean(state: State) -> usize
-    requires { ⌜ (sound state ≡ true) × (dirtyCount state ≡ 0 → ⊥) ⌝ }
-    ensures { λ r. ⌜ Chosen state r ⌝ }
+// The frame of the page that is cleaned, where so many are dirty: the named one's, or where none is named the one that comes first.
+pub fn frame_to_clean(state: State, count: usize) -> Choice
+    requires { ⌜ (sound state ≡ true) × (dirtyCount state ≡ 0 → ⊥) × (count ≡ dirtyCount state) ⌝ }
+    ensures { λ r. ⌜ Chosen state (r .frame) × (r .entry ≡ entryAt state (r .frame)) ⌝ }
 {
     let cleaning = state.cleaning;
     match cleaning {
-        Cleaning::Idle => first_frame(state),
+        Cleaning::Idle => first_frame(state, count),
         Cleaning::First(page) => named_frame(state, page),
         Cleaning::Second(page) => named_frame(state, page),
         Cleaning::Third(page) => named_frame(state, page),
@@ -171,11 +191,12 @@ pub struct Change {
 }
 
 // Stores the first half of a frame's page at home; the second half is next.
-pub fn store_first(state: State, home: &mut [u8], frames: &[u8], frame: usize) -> Change
-    requires { ⌜ Fitting state (length (now home)) (length (now frames)) frame ⌝ }
-    ensures { λ r. ⌜ (r .frame ≡ frame) × (changed state r ≡ cleaningTo state (Second (entryAt state frame .page))) × (now (home .exit) ≡ withFirstHalf (now (home .entry)) (entryAt state frame .page) (firstHalf (pageAt (now (frames .entry)) frame))) ⌝ }
+pub fn store_first(state: State, home: &mut [u8], frames: &[u8], choice: Choice) -> Change
+    requires { ⌜ Fitting state (length (now home)) (length (now frames)) (choice .frame) × (choice .entry ≡ entryAt state (choice .frame)) ⌝ }
+    ensures { λ r. ⌜ (r .frame ≡ choice .frame) × (changed state r ≡ cleaningTo state (Second (entryAt state (choice .frame) .page))) × (now (home .exit) ≡ withFirstHalf (now (home .entry)) (entryAt state (choice .frame) .page) (firstHalf (pageAt (now (frames .entry)) (choice .frame)))) ⌝ }
 {
-    let entry = state.dirty[frame];
+    let frame = choice.frame;
+    let entry = choice.entry;
     let page = entry.page;
     let to = wide(page) * Block::PAGE;
     let from = frame * Block::PAGE;
@@ -189,11 +210,12 @@ pub fn store_first(state: State, home: &mut [u8], frames: &[u8], frame: usize) -
 }
 
 // Stores the second half of a frame's page at home; the clean block is next.
-pub fn store_second(state: State, home: &mut [u8], frames: &[u8], frame: usize) -> Change
-    requires { ⌜ Fitting state (length (now home)) (length (now frames)) frame ⌝ }
-    ensures { λ r. ⌜ (r .frame ≡ frame) × (changed state r ≡ cleaningTo state (Third (entryAt state frame .page))) × (now (home .exit) ≡ withSecondHalf (now (home .entry)) (entryAt state frame .page) (secondHalf (pageAt (now (frames .entry)) frame))) ⌝ }
+pub fn store_second(state: State, home: &mut [u8], frames: &[u8], choice: Choice) -> Change
+    requires { ⌜ Fitting state (length (now home)) (length (now frames)) (choice .frame) × (choice .entry ≡ entryAt state (choice .frame)) ⌝ }
+    ensures { λ r. ⌜ (r .frame ≡ choice .frame) × (changed state r ≡ cleaningTo state (Third (entryAt state (choice .frame) .page))) × (now (home .exit) ≡ withSecondHalf (now (home .entry)) (entryAt state (choice .frame) .page) (secondHalf (pageAt (now (frames .entry)) (choice .frame)))) ⌝ }
 {
-    let entry = state.dirty[frame];
+    let frame = choice.frame;
+    let entry = choice.entry;
     let page = entry.page;
     let to = wide(page) * Block::PAGE + Block::SIZE;
     let from = frame * Block::PAGE + Block::SIZE;
@@ -206,32 +228,43 @@ pub fn store_second(state: State, home: &mut [u8], frames: &[u8], frame: usize) 
     }
 }
 
-// The smallest of the next sequence and the first groups of the frames but one.
-pub fn oldest_but(state: State, frame: usize) -> u64
-    requires { ⌜ (frame < state .frames) × (state .frames ≤ 32) × (length (firstGroups (drop (state .frames) (state .dirty))) ≡ 0) ⌝ }
+// The smallest of the next sequence and the first groups of the frames but one, where so many pages are dirty.
+pub fn oldest_but(state: State, frame: usize, count: usize) -> u64
+    requires { ⌜ count ≡ dirtyCount state ⌝ }
     ensures { λ r. ⌜ r ≡ smallest (state .next) (firstGroups (set (state .dirty) frame free)) ⌝ }
 {
-    let count = state.frames;
+    let dirty = state.dirty;
     let mut low = state.next;
+    let mut left = count;
     let mut i = 0;
-    while i < count {
-        let entry = state.dirty[i];
-        if (i != frame) & ((entry.first != 0) & (entry.first < low)) {
-            low = entry.first;
+    while 0 < left {
+        let entry = dirty[i];
+        if entry.first != 0 {
+            if (i != frame) & (entry.first < low) {
+                low = entry.first;
+            }
+            left -= 1;
         }
         i += 1;
     }
     low
 }
 
-// Stores the clean block of a frame's page, which is dirty no more.
-pub fn store_clean(state: State, log: &mut [u8], frames: &[u8], frame: usize) -> Change
-    requires { ⌜ (frame < state .frames) × (state .frames ≤ 32) × (1 ≤ state .slots) × (state .slots ≤ 1024) × (length (now log) ≡ logLength (state .slots)) × (state .next < 2 ^ 48) × (entryAt state frame .first ≡ 0 → ⊥) × (length (firstGroups (drop (state .frames) (state .dirty))) ≡ 0) ⌝ }
-    ensures { λ r. ⌜ (r .frame ≡ frame) × Cleaned state (now (log .entry)) frame (changed state r) (now (log .exit)) ⌝ }
+// Stores the clean block of a frame's page, one of so many dirty ones; it is dirty no more.
+pub fn store_clean(
+    state: State,
+    count: usize,
+    log: &mut [u8],
+    frames: &[u8],
+    choice: Choice,
+) -> Change
+    requires { ⌜ (choice .frame < state .frames) × (state .frames ≤ 32) × (1 ≤ state .slots) × (state .slots ≤ 1024) × (length (now log) ≡ logLength (state .slots)) × (state .next < 2 ^ 48) × (entryAt state (choice .frame) .first ≡ 0 → ⊥) × (choice .entry ≡ entryAt state (choice .frame)) × (count ≡ dirtyCount state) ⌝ }
+    ensures { λ r. ⌜ (r .frame ≡ choice .frame) × Cleaned state (now (log .entry)) (choice .frame) (changed state r) (now (log .exit)) ⌝ }
 {
-    let entry = state.dirty[frame];
+    let frame = choice.frame;
+    let entry = choice.entry;
     let page = wide(entry.page);
-    let keep_from = oldest_but(state, frame);
+    let keep_from = oldest_but(state, frame, count);
     let block = Block::clean(state.next, keep_from, page, state.ticket);
     stepping::store(log, state.slots, block, &frames[..0]);
     Change {
@@ -242,44 +275,57 @@ pub fn store_clean(state: State, log: &mut [u8], frames: &[u8], frame: usize) ->
     }
 }
 
-// The one store of an accepted Clean step.
-fn clean_store(state: State, log: &mut [u8], home: &mut [u8], frames: &[u8]) -> Change
-    requires { ⌜ cleanRefusalOf state (now log) (now home) (now frames) ≡ 0 ⌝ }
+// The one store of an accepted Clean step, where so many pages are dirty.
+fn clean_store(state: State, count: usize, log: &mut [u8], home: &mut [u8], frames: &[u8]) -> Change
+    requires { ⌜ (cleanRefusalOf state (now log) (now home) (now frames) ≡ 0) × (count ≡ dirtyCount state) ⌝ }
     ensures { λ r. ⌜ (r .frame < 32) × CleanSteps state (now (log .entry)) (now (home .entry)) (now (frames .entry)) (doneWith (changed state r)) (now (log .exit)) (now (home .exit)) ⌝ }
 {
-    let frame = frame_to_clean(state);
+    let choice = frame_to_clean(state, count);
     let cleaning = state.cleaning;
     match cleaning {
-        Cleaning::Idle => store_first(state, home, frames, frame),
-        Cleaning::First(_) => store_first(state, home, frames, frame),
-        Cleaning::Second(_) => store_second(state, home, frames, frame),
-        Cleaning::Third(_) => store_clean(state, log, frames, frame),
+        Cleaning::Idle => store_first(state, home, frames, choice),
+        Cleaning::First(_) => store_first(state, home, frames, choice),
+        Cleaning::Second(_) => store_second(state, home, frames, choice),
+        Cleaning::Third(_) => store_clean(state, count, log, frames, choice),
     }
 }
 
-// What Clean step changes: nothing where it is refused with a number.
-fn clean_change(number: u64, state: State, log: &mut [u8], home: &mut [u8], frames: &[u8]) -> Change
-    requires { ⌜ number ≡ cleanRefusalOf state (now log) (now home) (now frames) ⌝ }
+// What Clean step changes where so many pages are dirty: nothing where it is refused with a number.
+fn clean_change(
+    number: u64,
+    state: State,
+    count: usize,
+    log: &mut [u8],
+    home: &mut [u8],
+    frames: &[u8],
+) -> Change
+    requires { ⌜ (number ≡ cleanRefusalOf state (now log) (now home) (now frames)) × (sound state ≡ true → count ≡ dirtyCount state) ⌝ }
     ensures { λ r. ⌜ Changes state (now (log .entry)) (now (home .entry)) (now (frames .entry)) r (now (log .exit)) (now (home .exit)) ⌝ }
 {
     if number != 0 {
-        let entry = state.dirty[0];
+        let frame = number as usize % 32;
+        let dirty = state.dirty;
+        let entry = dirty[frame];
         let cleaning = state.cleaning;
         return Change {
-            frame: 0,
+            frame,
             entry,
             next: state.next,
             cleaning,
         };
     }
-    clean_store(state, log, home, frames)
+    clean_store(state, count, log, home, frames)
 }
 
-// Clean step.
+// Clean step. The state is taken apart once and put together once.
 pub fn clean_step(state: State, log: &mut [u8], home: &mut [u8], frames: &[u8]) -> Outcome
     ensures { λ r. ⌜ CleanSteps state (now (log .entry)) (now (home .entry)) (now (frames .entry)) r (now (log .exit)) (now (home .exit)) ⌝ }
 {
-    let verdict = soundness::checked(state);
+    let before = state.dirty;
+    let waiting = state.staged;
+    let sizes = state.groups;
+    let figures = soundness::figures_of(state);
+    let verdict = soundness::judged(figures, before, waiting, sizes);
     let sums = verdict.sums;
     let number = clean_refusal(
         verdict.sound,
@@ -289,14 +335,13 @@ pub fn clean_step(state: State, log: &mut [u8], home: &mut [u8], frames: &[u8]) 
         home.len(),
         frames.len(),
     );
-    let change = clean_change(number, state, log, home, frames);
+    let change = clean_change(number, state, sums.dirty, log, home, frames);
     let frame = change.frame;
     let entry = change.entry;
     let cleaning = change.cleaning;
-    let mut dirty = state.dirty;
+    let answer = answer_of(number);
+    let mut dirty = before;
     dirty[frame] = entry;
-    let staged = state.staged;
-    let groups = state.groups;
     Outcome {
         state: State {
             pages: state.pages,
@@ -305,14 +350,14 @@ pub fn clean_step(state: State, log: &mut [u8], home: &mut [u8], frames: &[u8]) 
             next: change.next,
             ticket: state.ticket,
             dirty,
-            staged,
-            groups,
+            staged: waiting,
+            groups: sizes,
             queued: state.queued,
             stored: state.stored,
             reserved: state.reserved,
             described: state.described,
             cleaning,
         },
-        answer: answer_of(number),
+        answer,
     }
 }

@@ -1,63 +1,95 @@
--- `cleaning::first_frame` meets its contract: the best frame so far has the least rank of those passed.
+-- `cleaning::first_frame` meets its contract: the least rank of those passed, and the count of dirty pages that are left.
 -- Assumes nothing.
-use Prim.Native.Nat.{ℕ, _≤_, _<_, _-_}
+use Prim.Native.Nat.{ℕ, _+_, _-_, _≤_, _<_}
+use mathlib.Core.Path.{_≡_, refl, sym, _∙_, subst₂}
 use mathlib.Core.Logic.{⊎-elim}
-use mathlib.Core.Path.{_≡_, sym, ap, _∙_}
-use Rattle.cleaning.specs.Cleans.{entryAt, rankOf}
-use Rattle.cleaning.proofs.Choosing.{least-first, least-taken, least-kept}
+use lib.ListN.{length, drop}
+use Rattle.promises.specs.Sums.{firstGroups}
+use Rattle.table.proofs.Scans.{length-mapped}
+use Rattle.cleaning.proofs.Choosing.{more-left, left-used, left-free, Leads, leads-start, leads-lower, leads-kept, leads-free, leads-end}
 use borrow.Author.Needs.{needs}
 use native.Mathlib.Omega.{arith}
 use Rattle.cleaning.proofs.first_frame.Statement.{statement}
 use Rattle.cleaning.proofs.first_frame.Tie as tie
 
 abbrev Inv-loop : tie.InvT-loop
-Inv-loop state best₀ least₀ i₀ best least i =
-    (i ≤ 32) × (best < 32) × (least ≡ rankOf (entryAt state best)) × ((j : ℕ) → j < i → rankOf (entryAt state best) ≤ rankOf (entryAt state j))
+Inv-loop count dirty best₀ least₀ left₀ i₀ best least left i = (i ≤ 32) × (best < 32) × (left ≡ length (firstGroups (drop i dirty))) × Leads dirty best least i
 
 abbrev μ-loop : tie.MeasureT-loop
-μ-loop state best₀ least₀ i₀ best least i = 32 - i
+μ-loop count dirty best₀ least₀ left₀ i₀ best least left i = 32 - i
 
-element-copy-out-leader : tie.Need-element-copy-out-leader Inv-loop μ-loop
-element-copy-out-leader c = search needs
+long-at : (c : tie.Start Inv-loop μ-loop) → length (c .args .state .dirty) ≡ 32
+long-at c = search (needs, length-mapped)
 
-rank-requires : tie.Need-rank-requires Inv-loop μ-loop
-rank-requires c κs = (c .before) .pre 0
+-- a page is left, so an entry is
+here-at : (c : tie.In-loop Inv-loop μ-loop) → c .before .loop .i < 32
+here-at c =
+    let more : c .before .loop .i < length (c .before .before .before .args .state .dirty) = more-left (c .before .before .before .args .state .dirty) (c .before .loop .i) (omega (arith, c .before .loop .inv .2, c .loop-test .taken)) in
+    omega (arith, long-at (c .before .before .before))
 
 loop-holds : tie.Need-loop-holds Inv-loop μ-loop
-loop-holds c = (omega arith, omega arith, c .rank .ensures, least-first (λ j. rankOf (entryAt ((c .before .before) .args .t1) j)))
+loop-holds c = (omega arith, omega arith, (c .before) .pre .0, leads-start ((c .before) .args .state .dirty))
 
 mul-entry : tie.Need-mul-entry Inv-loop μ-loop
-mul-entry c = search needs
+mul-entry c = let h = here-at c in omega arith
 
-element-copy-out-entry : tie.Need-element-copy-out-entry Inv-loop μ-loop
-element-copy-out-entry c = search needs
+array-copy-out-entry : tie.Need-array-copy-out-entry Inv-loop μ-loop
+array-copy-out-entry c = let h = here-at c in omega arith
 
-rank-requires-2 : tie.Need-rank-requires-2 Inv-loop μ-loop
-rank-requires-2 c κs = (c .before .before .before .before .before) .pre ((c .before .before) .loop .i)
+rank-requires : tie.Need-rank-requires Inv-loop μ-loop
+rank-requires c κs = (c .before .before .before .before .before .before) .pre .1 ((c .before .before .before .before) .loop .i)
+
+sub-left : tie.Need-sub-left Inv-loop μ-loop
+sub-left c = search needs
 
 add-i : tie.Need-add-i Inv-loop μ-loop
 add-i c = search needs
 
 loop-less : tie.Need-loop-less Inv-loop μ-loop
-loop-less c = search needs
+loop-less c = let h = here-at ((c .before .before .before)) in omega arith
 
 loop-again : tie.Need-loop-again Inv-loop μ-loop
 loop-again c =
-    let s = (c .before .before .before .before .before .before .before) .args .t1 in
+    let ds = (c .before .before .before .before .before .before) .args .state .dirty in
     let l = (c .before .before .before .before) .loop in
-    let own = (c .before) .rank2 .ensures in
-    let f : ℕ → ℕ = λ j. rankOf (entryAt s j) in
+    let few = here-at ((c .before .before .before)) in
+    let long : length ds ≡ 32 = long-at ((c .before .before .before .before .before .before)) in
+    let here : l .i < length ds = omega arith in
     ⊎-elim
-    (λ w. let h : f (l .i) < f (l .best) = omega (arith, own, l .inv .2, w .0 .taken) in
-    (omega arith, omega (arith, w .1), w .2 ∙ own ∙ ap f (sym (w .1)), least-taken f (l .best) (c .if1 .best) (l .i) (l .inv .3) (w .1) h))
-    (λ w. let h : f (l .best) ≤ f (l .i) = omega (arith, own, l .inv .2, w .0 .left) in
-    (omega arith, omega (arith, w .1), w .2 ∙ l .inv .2 ∙ ap f (sym (w .1)), least-kept f (l .best) (c .if1 .best) (l .i) (l .inv .3) (w .1) h))
+    (λ w. ⊎-elim
+    (λ v. (
+      omega arith,
+      omega (arith, w .3, v .1),
+      w .5 ∙ left-used ds (l .left) (l .i) (l .inv .2) here (w .0 .taken),
+      subst₂ (λ (b m : ℕ). Leads ds b m (l .i + 1)) (sym (w .3 ∙ v .1)) (sym (w .4 ∙ v .2)) (leads-lower ds (l .best) (l .least) (l .i) (l .inv .3) (w .1 .result) (w .1 .ensures) (v .0 .taken)),
+    ))
+    (λ v. (
+      omega arith,
+      omega (arith, w .3, v .1),
+      w .5 ∙ left-used ds (l .left) (l .i) (l .inv .2) here (w .0 .taken),
+      subst₂ (λ (b m : ℕ). Leads ds b m (l .i + 1)) (sym (w .3 ∙ v .1)) (sym (w .4 ∙ v .2)) (leads-kept ds (l .best) (l .least) (l .i) (l .inv .3) (w .1 .result) (w .1 .ensures) (omega (arith, w .1 .ok)) (v .0 .left)),
+    ))
+    (w .2 .came))
+    (λ w. (
+      omega arith,
+      omega (arith, w .1),
+      w .3 ∙ left-free ds (l .left) (l .i) (l .inv .2) here (w .0 .left),
+      subst₂ (λ (b m : ℕ). Leads ds b m (l .i + 1)) (sym (w .1)) (sym (w .2)) (leads-free ds (l .best) (l .least) (l .i) (l .inv .3) (w .0 .left)),
+    ))
     (c .if1 .came)
+
+mul-entry-2 : tie.Need-mul-entry-2 Inv-loop μ-loop
+mul-entry-2 c = search needs
+
+array-copy-out-entry-2 : tie.Need-array-copy-out-entry-2 Inv-loop μ-loop
+array-copy-out-entry-2 c = search needs
 
 returns : tie.Need-returns Inv-loop μ-loop
 returns c =
-    let l = (c .before) .loop in
-    (l .inv .1, λ other h. l .inv .3 other (omega arith))
+    let s = (c .before .before .before .before) .args .state in
+    let l = (c .before .before) .loop in
+    let none : length (firstGroups (drop (l .i) (s .dirty))) ≡ 0 = omega (arith, l .inv .2, (c .before) .loop-test .left) in
+    (l .inv .1, refl, λ other h. leads-end (s .dirty) (l .best) (l .least) (l .i) (l .inv .3) none other)
 
 pub first-frame-spec : {M : Type 1} → statement M
 first-frame-spec =
@@ -65,13 +97,14 @@ first-frame-spec =
     (tie.spec
     Inv-loop
     μ-loop
-    element-copy-out-leader
-    rank-requires
     loop-holds
     mul-entry
-    element-copy-out-entry
-    rank-requires-2
+    array-copy-out-entry
+    rank-requires
+    sub-left
     add-i
     loop-less
     loop-again
+    mul-entry-2
+    array-copy-out-entry-2
     returns)

@@ -18,7 +18,7 @@ enum-told : tie.Need-enum-told
 enum-told c = search needs
 
 first-frame-requires : tie.Need-first-frame-requires
-first-frame-requires c κs = firsts-small ((c .before .before) .args .state) (sound-of _ ((c .before .before) .pre .0))
+first-frame-requires c κs = ((c .before .before) .pre .2, firsts-small ((c .before .before) .args .state) (sound-of _ ((c .before .before) .pre .0)))
 
 enum-known-cleaning : tie.Need-enum-known-cleaning
 enum-known-cleaning c = search needs
@@ -41,23 +41,25 @@ named-frame-requires-3 c κs = ((c .before .before .before) .pre .0, names-dirty
 returns : tie.Need-returns
 returns c =
     let s = (c .before .before .before) .args .state in
-    chosen-first s _ (sound-of _ ((c .before .before .before) .pre .0)) ((c .before .before .before) .pre .1) ((c .before) .enum-told .given .1)
-    (λ other h. c .first-frame .ensures .1 other (omega (arith, long-at ((c .before .before .before)))))
+    let m = c .first-frame .ensures in (
+      chosen-first s _ (sound-of _ ((c .before .before .before) .pre .0)) ((c .before .before .before) .pre .1) ((c .before) .enum-told .given .1) (λ other h. m .2 other (omega (arith, long-at ((c .before .before .before))))),
+      m .1,
+    )
 
 returns-2 : tie.Need-returns-2
 returns-2 c =
-    let n = c .named-frame .ensures in
-    chosen-named ((c .before .before .before .before) .args .state) _ _ _ ((c .before .before) .cleaning .given .1) n (n .pageIs)
+    let m = c .named-frame .ensures in
+    (chosen-named ((c .before .before .before .before) .args .state) _ _ _ ((c .before .before) .cleaning .given .1) (m .0) (m .0 .pageIs), m .1)
 
 returns-3 : tie.Need-returns-3
 returns-3 c =
-    let n = c .named-frame2 .ensures in
-    chosen-named ((c .before .before .before .before) .args .state) _ _ _ ((c .before .before) .cleaning2 .given .1) n (n .pageIs)
+    let m = c .named-frame2 .ensures in
+    (chosen-named ((c .before .before .before .before) .args .state) _ _ _ ((c .before .before) .cleaning2 .given .1) (m .0) (m .0 .pageIs), m .1)
 
 returns-4 : tie.Need-returns-4
 returns-4 c =
-    let n = c .named-frame3 .ensures in
-    chosen-named ((c .before .before .before .before) .args .state) _ _ _ ((c .before .before) .cleaning3 .given .1) n (n .pageIs)
+    let m = c .named-frame3 .ensures in
+    (chosen-named ((c .before .before .before .before) .args .state) _ _ _ ((c .before .before) .cleaning3 .given .1) (m .0) (m .0 .pageIs), m .1)
 
 pub frame-to-clean-spec : {M : Type 1} → statement M
 frame-to-clean-spec =

@@ -1,39 +1,68 @@
--- `cleaning::named_frame` meets its contract: a dirty page is found in a frame.
+-- `cleaning::named_frame` meets its contract: a dirty page is found, for it is among those that are left.
 -- Assumes nothing.
-use mathlib.Core.Path.{_≡_, ap, _∙_}
-use Prim.Native.Nat.{ℕ}
-use lib.ListN.{length}
-use Rattle.promises.proofs.Soundness.{Sound, sound-of}
-use Rattle.table.specs.declared.Table.{Table}
-use Rattle.table.specs.Search.{isOf, placeOf, entriesOf}
+use Prim.Native.Nat.{_-_, _≤_}
+use mathlib.Core.Path.{_≡_, refl}
+use mathlib.Core.Bool.{true}
+use lib.ListN.{length, drop}
+use Rattle.promises.specs.Sound.{member, dirtyNumbers}
+use Rattle.promises.proofs.Soundness.{sound-of}
 use Rattle.table.proofs.Scans.{length-mapped}
-use Rattle.cleaning.proofs.Choosing.{named-by}
-use native.Mathlib.Omega.{arith}
+use Rattle.cleaning.proofs.Choosing.{named-here, named-left, named-end}
 use borrow.Author.Needs.{needs}
+use native.Mathlib.Omega.{arith}
 use Rattle.cleaning.proofs.named_frame.Statement.{statement}
 use Rattle.cleaning.proofs.named_frame.Tie as tie
 
-long-at : (c : tie.Start) → length (c .args .state .dirty) ≡ 32
+abbrev Inv-loop : tie.InvT-loop
+Inv-loop page dirty i₀ i = (i ≤ 32) × (member page (dirtyNumbers (drop i dirty)) ≡ true)
+
+abbrev μ-loop : tie.MeasureT-loop
+μ-loop page dirty i₀ i = 32 - i
+
+long-at : (c : tie.Start Inv-loop μ-loop) → length (c .args .state .dirty) ≡ 32
 long-at c = search (needs, length-mapped)
 
-wide-requires : tie.Need-wide-requires
-wide-requires c κs = search needs
+loop-holds : tie.Need-loop-holds Inv-loop μ-loop
+loop-holds c = (omega arith, (c .before) .pre .1)
 
-table-of-requires : tie.Need-table-of-requires
-table-of-requires c κs = search needs
+mul-entry : tie.Need-mul-entry Inv-loop μ-loop
+mul-entry c = search needs
 
-frame-of-requires : tie.Need-frame-of-requires
-frame-of-requires c κs =
-    let f : Sound ((c .before .before) .args .state) = sound-of _ ((c .before .before) .pre .0) in
-    omega (arith, f .frames .1, ap (λ (t : Table). t .count) (c .table-of .ensures))
+array-copy-out-entry : tie.Need-array-copy-out-entry Inv-loop μ-loop
+array-copy-out-entry c = search needs
 
-returns : tie.Need-returns
-returns c =
-    let s = (c .before .before .before) .args .state in
-    let f : Sound s = sound-of _ ((c .before .before .before) .pre .0) in
-    named-by s f ((c .before .before .before) .args .page) _ (omega (arith, f .frames .1, long-at ((c .before .before .before)))) ((c .before .before .before) .pre .1)
-    (c .frame-of .ensures .0 ∙ ap (λ (n : ℕ). placeOf (isOf n) (entriesOf ((c .before) .table-of .result))) ((c .before .before) .wide .ensures)
-    ∙ ap (λ (t : Table). placeOf (isOf ((c .before .before .before) .args .page)) (entriesOf t)) ((c .before) .table-of .ensures))
+returns : tie.Need-returns Inv-loop μ-loop
+returns c = (named-here ((c .before .before .before .before .before .before .before) .args .state) (sound-of _ ((c .before .before .before .before .before .before .before) .pre .0)) ((c .before .before .before .before .before .before .before) .args .page) _ (c .if1 .taken), refl)
+
+add-i : tie.Need-add-i Inv-loop μ-loop
+add-i c = search needs
+
+loop-less : tie.Need-loop-less Inv-loop μ-loop
+loop-less c = search needs
+
+loop-again : tie.Need-loop-again Inv-loop μ-loop
+loop-again c =
+    let a = (c .before .before .before .before .before .before .before) .args in
+    let l = (c .before .before .before .before .before) .loop in
+    (omega arith, named-left (a .page) (a .state .dirty) (l .i) (l .inv .1) (omega (arith, long-at ((c .before .before .before .before .before .before .before)))) (c .if1 .left))
+
+returns-2 : tie.Need-returns-2 Inv-loop μ-loop
+returns-2 c =
+    let a = (c .before .before .before) .args in
+    let l = (c .before) .loop in
+    absurd (named-end (a .page) (a .state .dirty) (l .i) (l .inv .1) (omega (arith, long-at ((c .before .before .before)))))
 
 pub named-frame-spec : {M : Type 1} → statement M
-named-frame-spec = tie.close (tie.spec wide-requires table-of-requires frame-of-requires returns)
+named-frame-spec =
+    tie.close
+    (tie.spec
+    Inv-loop
+    μ-loop
+    loop-holds
+    mul-entry
+    array-copy-out-entry
+    returns
+    add-i
+    loop-less
+    loop-again
+    returns-2)
