@@ -1,10 +1,9 @@
-// Clean step: one store of a cleaning. First half of a dirty page at home, second half, then the clean block in the log, which drops
-// the page from the frames.
+// Clean step in parts: what it is refused with, the page that is cleaned, and its one store: the first half of the page at home, the
+// second half, then the clean block in the log, which drops the page from the frames. The call itself stands in the store.
 use block::Block;
 use promises::Answer;
 use promises::Cleaning;
 use promises::Dirty;
-use promises::Outcome;
 use promises::Refusal;
 use promises::State;
 use soundness::sums::Sums;
@@ -85,7 +84,7 @@ pub fn clean_refusal(
 }
 
 // The answer with one of the numbers of Clean step.
-fn answer_of(number: u64) -> Answer
+pub fn answer_of(number: u64) -> Answer
     requires { ⌜ ((number ≡ 0 → ⊥) → (number ≡ 1 → ⊥) → (number ≡ 2 → ⊥) → (number ≡ 6 → ⊥) → (number ≡ 10 → ⊥) → number ≡ 11) ⌝ }
     ensures { λ r. ⌜ refusalIn r ≡ number ⌝ }
 {
@@ -291,7 +290,7 @@ fn clean_store(state: State, count: usize, log: &mut [u8], home: &mut [u8], fram
 }
 
 // What Clean step changes where so many pages are dirty: nothing where it is refused with a number.
-fn clean_change(
+pub fn clean_change(
     number: u64,
     state: State,
     count: usize,
@@ -315,49 +314,4 @@ fn clean_change(
         };
     }
     clean_store(state, count, log, home, frames)
-}
-
-// Clean step. The state is taken apart once and put together once.
-pub fn clean_step(state: State, log: &mut [u8], home: &mut [u8], frames: &[u8]) -> Outcome
-    ensures { λ r. ⌜ CleanSteps state (now (log .entry)) (now (home .entry)) (now (frames .entry)) r (now (log .exit)) (now (home .exit)) ⌝ }
-{
-    let before = state.dirty;
-    let waiting = state.staged;
-    let sizes = state.groups;
-    let figures = soundness::figures_of(state);
-    let verdict = soundness::judged(figures, before, waiting, sizes);
-    let sums = verdict.sums;
-    let number = clean_refusal(
-        verdict.sound,
-        sums,
-        state,
-        log.len(),
-        home.len(),
-        frames.len(),
-    );
-    let change = clean_change(number, state, sums.dirty, log, home, frames);
-    let frame = change.frame;
-    let entry = change.entry;
-    let cleaning = change.cleaning;
-    let answer = answer_of(number);
-    let mut dirty = before;
-    dirty[frame] = entry;
-    Outcome {
-        state: State {
-            pages: state.pages,
-            slots: state.slots,
-            frames: state.frames,
-            next: change.next,
-            ticket: state.ticket,
-            dirty,
-            staged: waiting,
-            groups: sizes,
-            queued: state.queued,
-            stored: state.stored,
-            reserved: state.reserved,
-            described: state.described,
-            cleaning,
-        },
-        answer,
-    }
 }

@@ -276,7 +276,45 @@ pub fn log_step(
 pub fn clean_step(state: State, log: &mut [u8], home: &mut [u8], frames: &[u8]) -> Outcome
     ensures { λ r. ⌜ CleanSteps state (now (log .entry)) (now (home .entry)) (now (frames .entry)) r (now (log .exit)) (now (home .exit)) ⌝ }
 {
-    cleaning::clean_step(state, log, home, frames)
+    let before = state.dirty;
+    let waiting = state.staged;
+    let sizes = state.groups;
+    let figures = soundness::figures_of(state);
+    let verdict = soundness::judged(figures, before, waiting, sizes);
+    let sums = verdict.sums;
+    let number = cleaning::clean_refusal(
+        verdict.sound,
+        sums,
+        state,
+        log.len(),
+        home.len(),
+        frames.len(),
+    );
+    let change = cleaning::clean_change(number, state, sums.dirty, log, home, frames);
+    let frame = change.frame;
+    let entry = change.entry;
+    let cleaning = change.cleaning;
+    let answer = cleaning::answer_of(number);
+    let mut dirty = before;
+    dirty[frame] = entry;
+    Outcome {
+        state: State {
+            pages: state.pages,
+            slots: state.slots,
+            frames: state.frames,
+            next: change.next,
+            ticket: state.ticket,
+            dirty,
+            staged: waiting,
+            groups: sizes,
+            queued: state.queued,
+            stored: state.stored,
+            reserved: state.reserved,
+            described: state.described,
+            cleaning,
+        },
+        answer,
+    }
 }
 
 // The page's committed bytes, as a part of home or of frames; refused: the empty part, and the refusal's number.

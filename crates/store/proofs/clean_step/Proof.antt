@@ -1,16 +1,16 @@
--- `cleaning::clean_step` meets its contract, Clean step's promise: the change is made in one place, and the answer has the number.
+-- `clean_step` meets its contract, Clean step's promise: the change is made in one place, and the answer has the number.
 -- Assumes nothing.
 use Prim.Native.Nat.{ℕ}
 use mathlib.Core.Path.{_≡_, sym, _∙_, subst}
 use lib.ListN.{length}
 use Rattle.soundness.specs.Parts.{Judges}
 use Rattle.soundness.proofs.Whole.{judged-whole}
 use Rattle.cleaning.proofs.Decision.{other-number}
 use Rattle.cleaning.proofs.Stepped.{answered}
 use native.Mathlib.Omega.{arith}
 use borrow.Author.Needs.{needs}
-use Rattle.cleaning.proofs.clean_step.Statement.{statement}
-use Rattle.cleaning.proofs.clean_step.Tie as tie
+use Rattle.store.proofs.clean_step.Statement.{statement}
+use Rattle.store.proofs.clean_step.Tie as tie
 
 -- the verdict on the state that was taken apart is one on the state
 judges-at : (c : tie.After-judged) → Judges (c .before .before .before .before .before .before .before .before .args .state) (c .judged .result)
