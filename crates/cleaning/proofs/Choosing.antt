@@ -10,7 +10,7 @@ use lib.ListN.{length, drop, getD, set}
 use lib.Seq.{getD-set-same, getD-set-other, set-getD, lt-length-set}
 use borrow.Author.Tests.{eqb-true, eqb-false, eq-eqb, ne-eqb, ltb-true, not-true}
 use Rattle.area.proofs.Parts.{either}
-use Rattle.block.proofs.Tests.{never-both}
+use Rattle.block.proofs.Tests.{never-both, by-cases}
 use Rattle.promises.specs.declared.State.{State}
 use Rattle.promises.specs.declared.Dirty.{Dirty}
 use Rattle.promises.specs.Areas.{pageAt}
@@ -21,7 +21,7 @@ use Rattle.promises.specs.Sound.{member, allBelow, dirtyNumbers}
 use Rattle.promises.proofs.Soundness.{and-both, Sound}
 use Rattle.promises.proofs.Table.{lookUp-set}
 use Rattle.promises.proofs.History.Sees.{by-eq}
-use Rattle.soundness.proofs.Scans.{pages-more, pages-same, pages-end, firsts-more, firsts-same, firsts-end}
+use Rattle.soundness.proofs.Scans.{pages-more, pages-same, firsts-more, firsts-same, firsts-end}
 use Rattle.table.specs.Search.{free, isOf}
 use Rattle.table.proofs.Entries.{own-apart}
 use Rattle.table.proofs.Scans.{lower, not-lower}
@@ -105,6 +105,16 @@ module _ (ds : List Dirty) (best least i : ℕ) (l : Leads ds best least i) wher
         (λ n. omega (arith, best-few, l .reached, l .passed j (used-below i ds j none n) .0))
 
 -- ---- a search for a named page: it is among those that are left
+
+-- no first group: no page
+pages-none : (ds : List Dirty) → length (firstGroups ds) ≡ 0 → dirtyNumbers ds ≡ []
+unfolding firstGroups dirtyNumbers
+pages-none [] h = refl
+pages-none (d ∷ ds) h =
+    by-cases (eqb (d .first) 0)
+    (λ t. rw t (pages-none ds (rw t at h)))
+    (λ t. let z : suc (length (firstGroups ds)) ≡ 0 = rw t at h in absurd (omega arith))
+
 module _ (page : ℕ) (ds : List Dirty) (i : ℕ) (m : member page (dirtyNumbers (drop i ds)) ≡ true) where
   pub named-left : i < length ds → isOf page (getD ds i free) ≡ false → member page (dirtyNumbers (drop (i + 1) ds)) ≡ true
   named-left h e =
@@ -115,8 +125,8 @@ module _ (page : ℕ) (ds : List Dirty) (i : ℕ) (m : member page (dirtyNumbers
       go true f q = absurd (never-both true refl f)
       go false f q = q
 
-  pub named-end : length ds ≤ i → ⊥
-  named-end h = never-both _ m (ap (member page) (pages-end ds i h))
+  pub named-end : length (firstGroups (drop i ds)) ≡ 0 → ⊥
+  named-end h = never-both _ m (ap (member page) (pages-none (drop i ds) h))
 
 -- ---- a search for the oldest first group, one frame taken as free
 

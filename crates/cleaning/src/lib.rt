@@ -154,9 +154,10 @@ pub fn named_frame(state: State, page: u16) -> Choice
     requires { ⌜ (sound state ≡ true) × (member page (dirtyNumbers (state .dirty)) ≡ true) ⌝ }
     ensures { λ r. ⌜ Named state page (r .frame) × (r .entry ≡ entryAt state (r .frame)) ⌝ }
 {
+    let frames = state.frames;
     let dirty = state.dirty;
     let mut i = 0;
-    while i < 32 {
+    while i < frames {
         let entry = dirty[i];
         if (entry.first != 0) & (page == entry.page) {
             return Choice { frame: i, entry };
