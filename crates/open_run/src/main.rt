@@ -2,13 +2,13 @@
 // unless the line says otherwise; home's bytes are 5, and frames hold 9 before each opening. One line for each.
 use block::Block;
 use libc::STDOUT_FILENO;
+use promises::Dirty;
 use promises::OpenOutcome;
 use promises::Opened;
 use promises::Refusal;
 use promises::State;
-use table::Table;
 ghost use mathlib.Core.Path.{_≡_};
-ghost use Prim.Native.Nat.{_≤_, _<_};
+ghost use Prim.Native.Nat.{_≤_};
 ghost use lib.ListN.{length};
 ghost use Rattle.promises.specs.Answers.{numberOf};
 
@@ -42,16 +42,27 @@ fn number_of(refusal: Refusal) -> u64
     }
 }
 
+// 1 for a frame in use, 0 for a free one.
+fn in_use(entry: Dirty) -> u64
+    ensures { λ r. ⌜ r ≤ 1 ⌝ }
+{
+    if entry.first != 0 {
+        return 1;
+    }
+    0
+}
+
+// The count of dirty pages: F is at most 2.
+fn dirty_pages(state: State) -> u64 {
+    let dirty = state.dirty;
+    in_use(dirty[0]) + in_use(dirty[1])
+}
+
 // Writes next, the count of dirty pages, the page in the first frame and its first byte.
 fn show_state(state: State, byte: u64) {
-    let dirty = state.dirty;
-    let count = table::dirty_pages(Table {
-        count: state.frames,
-        full: false,
-        dirty,
-    });
+    let count = dirty_pages(state);
     labelled(b" next ", state.next);
-    labelled(b" dirty ", count as u64);
+    labelled(b" dirty ", count);
     if count != 0 {
         let entry = state.dirty[0];
         labelled(b" page ", entry.page as u64);

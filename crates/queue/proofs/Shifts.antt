@@ -10,13 +10,11 @@ use native.Mathlib.Nat.{add-comm}
 use lib.ListN.{length, take, drop, getD, set, length-drop}
 use lib.Seq.{set-at, take-suc, drop-cons, getD-drop, length-take-le, take-all}
 use borrow.Author.Tests.{eq-eqb, ne-eqb}
-use Rattle.promises.specs.declared.State.{State}
-use Rattle.promises.specs.declared.Dirty.{Dirty}
 use Rattle.promises.specs.declared.Staged.{Staged}
 use Rattle.promises.specs.declared.Cleaning.{Cleaning}
 use Rattle.promises.specs.declared.Cleaning.the-variants.{Idle, First, Second, Third}
 use Rattle.table.proofs.Scans.{rest, rest-cons, rest-end}
-use Rattle.queue.specs.Queue.{changes, idleIf, cleaningLeft, shifted, commitDone}
+use Rattle.queue.specs.Queue.{changes, idleIf, cleaningLeft, shifted}
 
 abbrev pub noStaged : Staged
 noStaged = record { page = 0; offset = 0; length = 0; area = 0 }
@@ -77,31 +75,3 @@ module _ (cleaning : Cleaning) (group : List Staged) where
     pub left-third : cleaning ≡ Third page → left ≡ idleIf changed (Third page) → left ≡ cleaningLeft group cleaning
     unfolding cleaningLeft
     left-third e h = rw e (h ∙ ap (λ (x : Bool). idleIf x (Third page)) told)
-
--- ---- the state once the group is committed
-
--- with this queue and this cleaning
-abbrev built : State → List Dirty → List Staged → List ℕ → Cleaning → State
-built state dirty staged groups cleaning = record {
-  pages = state .pages;
-  slots = state .slots;
-  frames = state .frames;
-  next = state .next + 1;
-  ticket = state .ticket + 1;
-  dirty = dirty;
-  staged = staged;
-  groups = groups;
-  queued = state .queued - 1;
-  stored = 0;
-  reserved = state .reserved;
-  described = state .described;
-  cleaning = cleaning;
-}
-
-pub committed-is : (state : State) (dirty : List Dirty) (size : ℕ) (staged : List Staged) (groups : List ℕ) (cleaning : Cleaning)
-    → staged ≡ shifted (state .staged) size → groups ≡ shifted (state .groups) 1
-    → cleaning ≡ cleaningLeft (take size (state .staged)) (state .cleaning) → built state dirty staged groups cleaning ≡ commitDone state dirty size
-committed-is state dirty size staged groups cleaning a b c =
-    ap (λ (x : List Staged). built state dirty x groups cleaning) a
-    ∙ ap (λ (x : List ℕ). built state dirty (shifted (state .staged) size) x cleaning) b
-    ∙ ap (built state dirty (shifted (state .staged) size) (shifted (state .groups) 1)) c

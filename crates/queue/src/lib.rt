@@ -1,13 +1,12 @@
 // The queue once its oldest group is committed: the group leaves it, and a cleaning of a page that the group changed is idle again.
 // It knows the state and none of the lent areas.
 use promises::Cleaning;
-use promises::Dirty;
 use promises::Staged;
 use promises::State;
 ghost use mathlib.Core.Path.{_≡_};
-ghost use Prim.Native.Nat.{_≤_, _<_, _^_};
+ghost use Prim.Native.Nat.{_≤_};
 ghost use lib.ListN.{take};
-ghost use Rattle.queue.specs.Queue.{changes, idleIf, cleaningLeft, shifted, commitDone};
+ghost use Rattle.queue.specs.Queue.{changes, idleIf, cleaningLeft, shifted};
 
 // Whether one of the first count staged updates changes a page.
 pub fn page_changed(state: State, count: usize, page: u16) -> bool
@@ -74,31 +73,4 @@ pub fn groups_shifted(groups: [u8; 32]) -> [u8; 32]
         i += 1;
     }
     left
-}
-
-// The state once the commit of the oldest group, of size updates, is stored and these pages are dirty.
-pub fn committed(state: State, dirty: [Dirty; 32], size: usize) -> State
-    requires { ⌜ (size ≤ 32) × (1 ≤ state .queued) × (state .next < 2 ^ 48) × (state .ticket < 2 ^ 48) ⌝ }
-    ensures { λ r. ⌜ r ≡ commitDone state dirty size ⌝ }
-{
-    let all_staged = state.staged;
-    let all_groups = state.groups;
-    let staged = staged_shifted(all_staged, size);
-    let groups = groups_shifted(all_groups);
-    let cleaning = cleaning_left(state, size);
-    State {
-        pages: state.pages,
-        slots: state.slots,
-        frames: state.frames,
-        next: state.next + 1,
-        ticket: state.ticket + 1,
-        dirty,
-        staged,
-        groups,
-        queued: state.queued - 1,
-        stored: 0,
-        reserved: state.reserved,
-        described: state.described,
-        cleaning,
-    }
 }

@@ -161,11 +161,3 @@ pub fn judged(
         cleaning,
     })
 }
-
-// Whether a state is sound.
-pub fn sound(state: State) -> bool
-    ensures { λ r. ⌜ r ≡ sound state ⌝ }
-{
-    let verdict = checked(state);
-    verdict.sound
-}

@@ -1,9 +1,8 @@
 // What Log step and Clean step share: the test of the lent lengths, and the one store of 512 bytes that a call makes.
 use block::Block;
 use promises::State;
-use table::Table;
 ghost use mathlib.Core.Path.{_≡_};
-ghost use Prim.Native.Nat.{_+_, _*_, _≤_};
+ghost use Prim.Native.Nat.{_+_, _≤_};
 ghost use lib.ListN.{length};
 ghost use Rattle.area.specs.Part.{part, splice};
 ghost use Rattle.block.specs.Sizes.{blockSize, newBytesMost};
@@ -11,7 +10,6 @@ ghost use Rattle.block.specs.Legal.{slotOf};
 ghost use Rattle.block.specs.Layout.{layout};
 ghost use Rattle.promises.specs.Areas.{withSlot, logLength};
 ghost use Rattle.promises.specs.LogStep.{areasFit};
-ghost use Rattle.stepping.specs.Tables.{tableOf};
 
 // Whether log, home and frames of these lengths are the areas of a state whose sizes are in range.
 pub fn areas_fit(state: State, log: usize, home: usize, frames: usize) -> bool
@@ -21,18 +19,6 @@ pub fn areas_fit(state: State, log: usize, home: usize, frames: usize) -> bool
     (log == state.slots * Block::SIZE)
         & (home == state.pages * Block::PAGE)
         & (frames == state.frames * Block::PAGE)
-}
-
-// The dirty pages of a state as a table.
-pub fn table_of(state: State) -> Table
-    ensures { λ r. ⌜ r ≡ tableOf state ⌝ }
-{
-    let dirty = state.dirty;
-    Table {
-        count: state.frames,
-        full: false,
-        dirty,
-    }
 }
 
 // Stores a block and its new bytes in its slot of a log of so many slots.

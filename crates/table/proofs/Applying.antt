@@ -212,16 +212,6 @@ never : {X : Type 0} {t : Bool} → t ≡ true → t ≡ false → X
 never e f = let z : _≡_ {A = Bool} true false = sym e ∙ f in let y : _≡_ {A = ℕ} 0 1 = cc in absurd (omega arith)
 
 module _ (home frames : List ℕ) (u : Update) (group : ℕ) (t : Table) where
-  -- nothing happens once full
-  pub applies-not : t .full ≡ true → Applies t home frames u group t frames
-  applies-not f = record {
-    countIs = refl;
-    framesLong = refl;
-    stays = λ e. (refl, refl);
-    fits = λ es e h l. never f e;
-    fills = λ es e h l. f;
-  }
-
   module _ (few : t .count ≤ length (t .dirty)) where
     -- no frame is free, and none holds the page
     pub applies-full : (i : ℕ) → t .full ≡ false → i ≡ seatOf t (u .page) → t .count ≤ i → Applies t home frames u group (fullTable t) frames

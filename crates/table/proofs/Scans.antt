@@ -3,7 +3,7 @@
 use mathlib.Core.Path.{_≡_, refl, sym, ap, _∙_}
 use mathlib.Core.Bool.{Bool, true, false, not, _&&_}
 use mathlib.Core.List.{List, [], _∷_, map}
-use Prim.Native.Nat.{ℕ, suc, _+_, _≤_, _<_, min}
+use Prim.Native.Nat.{ℕ, _+_, _≤_, _<_, min}
 use native.Mathlib.Numerals.{add-one}
 use native.Mathlib.Omega.{arith}
 use lib.Dec.{eqb, ltb}
@@ -14,7 +14,7 @@ use Rattle.block.proofs.Tests.{by-cases}
 use Rattle.promises.specs.declared.Dirty.{Dirty}
 use Rattle.promises.specs.Contents.{unless}
 use Rattle.promises.specs.Sums.{firstGroups, smallest}
-use Rattle.table.specs.Search.{free, placeOf}
+use Rattle.table.specs.Search.{free}
 
 -- the length of an array of structs in a struct, as owning the struct tells it: `search (needs, length-mapped)` finds the premise
 pub length-mapped : (X Y : Type 0) (f : X → Y) (l : List X) (n : ℕ) → length (map f l) ≡ n → length l ≡ n
@@ -37,21 +37,6 @@ module _ {A : Type 0} where
       let f : length (take n l) ≤ i = omega arith in
       drop-of-length-le (take n l) f
 
--- ---- searches
-
-module _ (t : Dirty → Bool) (l : List Dirty) (n i : ℕ) where
-  pub place-hit : i < n → n ≤ length l → t (getD l i free) ≡ true → placeOf t (rest l n i) ≡ 0
-  unfolding placeOf
-  place-hit h k e = rw (rest-cons l n i free h k, e)
-
-  pub place-miss : i < n → n ≤ length l → t (getD l i free) ≡ false → placeOf t (rest l n i) ≡ suc (placeOf t (rest l n (i + 1)))
-  unfolding placeOf
-  place-miss h k e = rw (rest-cons l n i free h k, e)
-
-  pub place-end : n ≤ i → n ≤ length l → placeOf t (rest l n i) ≡ 0
-  unfolding placeOf
-  place-end h k = rw (rest-end l n i h k)
-
 -- ---- the first groups
 
 -- the next entry, in use or not
@@ -65,10 +50,6 @@ module _ (l : List Dirty) (i : ℕ) (h : i < length l) where
 
   pub groups-same : getD l i free .first ≡ 0 → firstGroups (drop i l) ≡ firstGroups (drop (i + 1) l)
   groups-same e = groups-next ∙ ap (λ (b : Bool). unless b (getD l i free .first) (firstGroups (drop (i + 1) l))) (eq-eqb _ _ e)
-
-pub groups-end : (l : List Dirty) (i : ℕ) → length l ≤ i → firstGroups (drop i l) ≡ []
-unfolding firstGroups
-groups-end l i h = rw (drop-of-length-le l h)
 
 -- the smallest, taken from the front on
 pub smallest-min : (a x : ℕ) (xs : List ℕ) → smallest (min a x) xs ≡ min a (smallest x xs)
