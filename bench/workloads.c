@@ -9,6 +9,7 @@
 #include "workloads.h"
 #include "c/store.h"
 
+#include <alloca.h>
 #include <inttypes.h>
 #include <stdio.h>
 #include <stdlib.h>
@@ -292,6 +293,22 @@ static const struct image *image_of(const struct frame *frame, enum workload_num
     }
 }
 
+/* Where a workload's stack starts, in bytes below the place of the first round. What a copy costs
+ * depends on how the places of its bytes fall into cache lines, and the system starts the stack at
+ * another multiple of 16 in every process: so every four rounds go through all four, with the same
+ * one for all subjects of a round. */
+static size_t stack_offset;
+
+static __attribute__((noinline)) uint64_t run(workload *work, struct frame *frame,
+                                              size_t log_length, uint64_t count)
+{
+    volatile uint8_t *below = alloca(64 + stack_offset);
+
+    below[0] = 0;
+    return work(frame->log, log_length, frame->home, HOME_LENGTH, frame->frames, FRAMES_LENGTH,
+                frame->staging, STAGING_LENGTH, count);
+}
+
 static double measure(struct frame *frame, enum workload_number number, size_t which)
 {
     const struct subject *subject = subjects[which];
@@ -311,9 +328,7 @@ static double measure(struct frame *frame, enum workload_number number, size_t w
         fail("it could not be set up", subject->name);
 
     double start = now();
-    uint64_t digest =
-        subject->work[number](frame->log, log_length, frame->home, HOME_LENGTH, frame->frames,
-                              FRAMES_LENGTH, frame->staging, STAGING_LENGTH, count);
+    uint64_t digest = run(subject->work[number], frame, log_length, count);
     double end = now();
 
     if (subject->start != NULL) {
@@ -436,6 +451,7 @@ int main(int argc, char **argv)
 
     /* C is the first in the first round, so that the others can be held to it; then each in turn. */
     for (int round = 0; round < rounds; round++) {
+        stack_offset = 16 * ((size_t)round % 4);
         for (int number = 0; number < WORKLOADS; number++)
             for (size_t turn = 0; turn < SUBJECTS; turn++) {
                 size_t which = (turn + (size_t)round) % SUBJECTS;
