@@ -25,15 +25,24 @@ use Rattle.soundness.proofs.Scans.{pages-more, pages-same, firsts-more, firsts-
 use Rattle.table.specs.Search.{free, isOf}
 use Rattle.table.proofs.Entries.{own-apart}
 use Rattle.table.proofs.Scans.{lower, not-lower}
-use Rattle.cleaning.specs.Cleans.{entryAt, rankOf, Named}
+use Rattle.cleaning.specs.Cleans.{entryAt, rankOf, rankIn, Named}
 
 -- ---- ranks
 
-pub rank-free : (entry : Dirty) → entry .first ≡ 0 → rankOf entry ≡ 2 ^ 64 - 1
-rank-free entry e = simp (eq-eqb _ _ e)
+pub rank-free : (named : ℕ) (entry : Dirty) → entry .first ≡ 0 → rankIn named entry ≡ 2 ^ 64 - 1
+rank-free named entry e = simp (eq-eqb _ _ e)
 
-pub rank-used : (entry : Dirty) → (entry .first ≡ 0 → ⊥) → rankOf entry ≡ entry .first * 65536 + entry .page
+rank-last : (entry : Dirty) → entry .first ≡ 0 → rankOf entry ≡ 2 ^ 64 - 1
+rank-last entry e = simp (eq-eqb _ _ e)
+
+rank-used : (entry : Dirty) → (entry .first ≡ 0 → ⊥) → rankOf entry ≡ entry .first * 65536 + entry .page
 rank-used entry n = simp (ne-eqb _ _ n)
+
+-- where no page is named
+rank-idle : (entry : Dirty) → ((entry .first ≡ 0 → ⊥) → entry .page < 65536) → rankIn 65536 entry ≡ rankOf entry
+rank-idle entry small =
+    by-eq (entry .first) 0 (λ z. rank-free 65536 entry z ∙ sym (rank-last entry z))
+    (λ n. simp (ne-eqb _ _ n, ne-eqb 65536 (entry .page) (λ e. omega (arith, small n))))
 
 -- a frame in use is one of those below a count from which on none is
 used-below : (count : ℕ) (ds : List Dirty) (i : ℕ) → length (firstGroups (drop count ds)) ≡ 0 → (getD ds i free .first ≡ 0 → ⊥) → i < count
@@ -67,66 +76,73 @@ module _ (ds : List Dirty) (left i : ℕ) (e : left ≡ length (firstGroups (dro
   left-free z = omega (arith, ap length (firsts-same ds i h z))
 
 -- a search for the least rank: it is no more than any that is passed, and that of the best frame, or the greatest
-pub record Leads (ds : List Dirty) (best least i : ℕ) : Type 0 where
-  pub passed : (j : ℕ) → j < i → (least ≤ rankOf (getD ds j free)) × (rankOf (getD ds j free) ≤ 2 ^ 64 - 1)
-  pub reached : min (rankOf (getD ds best free)) (2 ^ 64 - 1) ≤ least
+pub record Leads (named : ℕ) (ds : List Dirty) (best least i : ℕ) : Type 0 where
+  pub passed : (j : ℕ) → j < i → (least ≤ rankIn named (getD ds j free)) × (rankIn named (getD ds j free) ≤ 2 ^ 64 - 1)
+  pub reached : min (rankIn named (getD ds best free)) (2 ^ 64 - 1) ≤ least
   pub most : least ≤ 2 ^ 64 - 1
 
-pub leads-start : (ds : List Dirty) → Leads ds 0 (2 ^ 64 - 1) 0
-leads-start ds = record { passed = λ j h. absurd (omega arith); reached = omega arith; most = omega arith }
+pub leads-start : (named : ℕ) (ds : List Dirty) → Leads named ds 0 (2 ^ 64 - 1) 0
+leads-start named ds = record { passed = λ j h. absurd (omega arith); reached = omega arith; most = omega arith }
 
-module _ (ds : List Dirty) (best least i : ℕ) (l : Leads ds best least i) where
+module _ (named : ℕ) (ds : List Dirty) (best least i : ℕ) (l : Leads named ds best least i) where
   -- one more frame is seen
-  passed-more : (low own : ℕ) → own ≡ rankOf (getD ds i free) → own ≤ 2 ^ 64 - 1 → low ≤ least → low ≤ own → (j : ℕ) → j < i + 1
-      → (low ≤ rankOf (getD ds j free)) × (rankOf (getD ds j free) ≤ 2 ^ 64 - 1)
+  passed-more : (low own : ℕ) → own ≡ rankIn named (getD ds i free) → own ≤ 2 ^ 64 - 1 → low ≤ least → low ≤ own → (j : ℕ) → j < i + 1
+      → (low ≤ rankIn named (getD ds j free)) × (rankIn named (getD ds j free) ≤ 2 ^ 64 - 1)
   passed-more low own e few h k j below =
-      by-eq j i (λ q. let same = ap (λ (n : ℕ). rankOf (getD ds n free)) q in (omega (arith, same), omega (arith, same)))
+      by-eq j i (λ q. let same = ap (λ (n : ℕ). rankIn named (getD ds n free)) q in (omega (arith, same), omega (arith, same)))
       (λ n. let p = l .passed j (omega arith) in (omega (arith, p .0), p .1))
 
-  pub leads-lower : (own : ℕ) → own ≡ rankOf (getD ds i free) → own < least → Leads ds i own (i + 1)
+  pub leads-lower : (own : ℕ) → own ≡ rankIn named (getD ds i free) → own < least → Leads named ds i own (i + 1)
   leads-lower own e h =
       record { passed = passed-more own own e (omega (arith, l .most)) (omega arith) (omega arith); reached = omega arith; most = omega (arith, l .most) }
 
-  pub leads-kept : (own : ℕ) → own ≡ rankOf (getD ds i free) → own ≤ 2 ^ 64 - 1 → least ≤ own → Leads ds best least (i + 1)
+  pub leads-kept : (own : ℕ) → own ≡ rankIn named (getD ds i free) → own ≤ 2 ^ 64 - 1 → least ≤ own → Leads named ds best least (i + 1)
   leads-kept own e few h = record { passed = passed-more least own e few (omega arith) h; reached = l .reached; most = l .most }
 
-  pub leads-free : getD ds i free .first ≡ 0 → Leads ds best least (i + 1)
-  leads-free z = leads-kept (2 ^ 64 - 1) (sym (rank-free (getD ds i free) z)) (omega arith) (l .most)
+  pub leads-free : getD ds i free .first ≡ 0 → Leads named ds best least (i + 1)
+  leads-free z = leads-kept (2 ^ 64 - 1) (sym (rank-free named (getD ds i free) z)) (omega arith) (l .most)
 
   -- those that are left are free
   module _ (none : length (firstGroups (drop i ds)) ≡ 0) where
-    best-few : rankOf (getD ds best free) ≤ 2 ^ 64 - 1
+    best-few : rankIn named (getD ds best free) ≤ 2 ^ 64 - 1
     best-few =
-        by-eq (getD ds best free .first) 0 (λ z. omega (arith, rank-free (getD ds best free) z)) (λ n. l .passed best (used-below i ds best none n) .1)
+        by-eq (getD ds best free .first) 0 (λ z. omega (arith, rank-free named (getD ds best free) z)) (λ n. l .passed best (used-below i ds best none n) .1)
 
-    pub leads-end : (j : ℕ) → rankOf (getD ds best free) ≤ rankOf (getD ds j free)
+    pub leads-end : (j : ℕ) → rankIn named (getD ds best free) ≤ rankIn named (getD ds j free)
     leads-end j =
-        by-eq (getD ds j free .first) 0 (λ z. omega (arith, best-few, rank-free (getD ds j free) z))
+        by-eq (getD ds j free .first) 0 (λ z. omega (arith, best-few, rank-free named (getD ds j free) z))
         (λ n. omega (arith, best-few, l .reached, l .passed j (used-below i ds j none n) .0))
 
--- ---- a search for a named page: it is among those that are left
+-- ---- the rank of a named page
 
--- no first group: no page
-pages-none : (ds : List Dirty) → length (firstGroups ds) ≡ 0 → dirtyNumbers ds ≡ []
-unfolding firstGroups dirtyNumbers
-pages-none [] h = refl
-pages-none (d ∷ ds) h =
-    by-cases (eqb (d .first) 0)
-    (λ t. rw t (pages-none ds (rw t at h)))
-    (λ t. let z : suc (length (firstGroups ds)) ≡ 0 = rw t at h in absurd (omega arith))
+-- rank 0 is that of the named page
+pub rank-zero : (named : ℕ) (entry : Dirty) → rankIn named entry ≡ 0 → isOf named entry ≡ true
+rank-zero named entry e = go (eqb (entry .first) 0) (eqb named (entry .page)) refl e
+  where
+    go : (t u : Bool) → eqb (entry .first) 0 ≡ t → cond t (2 ^ 64 - 1) (cond u 0 (entry .first * 65536 + entry .page)) ≡ 0 → (not t && u) ≡ true
+    go true u z h = absurd (omega arith)
+    go false true z h = refl
+    go false false z h = absurd (eqb-false (entry .first) 0 z (omega arith))
 
-module _ (page : ℕ) (ds : List Dirty) (i : ℕ) (m : member page (dirtyNumbers (drop i ds)) ≡ true) where
-  pub named-left : i < length ds → isOf page (getD ds i free) ≡ false → member page (dirtyNumbers (drop (i + 1) ds)) ≡ true
-  named-left h e =
-      by-eq (getD ds i free .first) 0 (λ z. ap (member page) (sym (pages-same ds i h z)) ∙ m)
-      (λ n. go (eqb page (getD ds i free .page)) (rw (ne-eqb _ _ n) at e) (ap (member page) (sym (pages-more ds i h n)) ∙ m))
-    where
-      go : (t : Bool) → t ≡ false → (t || member page (dirtyNumbers (drop (i + 1) ds))) ≡ true → member page (dirtyNumbers (drop (i + 1) ds)) ≡ true
-      go true f q = absurd (never-both true refl f)
-      go false f q = q
+pub rank-named : (named : ℕ) (entry : Dirty) → isOf named entry ≡ true → rankIn named entry ≡ 0
+rank-named named entry e = go (eqb (entry .first) 0) (eqb named (entry .page)) e
+  where
+    go : (t u : Bool) → (not t && u) ≡ true → cond t (2 ^ 64 - 1) (cond u 0 (entry .first * 65536 + entry .page)) ≡ 0
+    go true u h = absurd (never-both true refl (sym h))
+    go false true h = refl
+    go false false h = absurd (never-both true refl (sym h))
 
-  pub named-end : length (firstGroups (drop i ds)) ≡ 0 → ⊥
-  named-end h = never-both _ m (ap (member page) (pages-none (drop i ds) h))
+-- a dirty page is in a frame
+pub dirty-at : (page : ℕ) (ds : List Dirty) (C : Type 0) → member page (dirtyNumbers ds) ≡ true → ((frame : ℕ) → isOf page (getD ds frame free) ≡ true → C) → C
+unfolding dirtyNumbers
+dirty-at page [] C m k = absurd (never-both true refl (sym m))
+dirty-at page (d ∷ ds) C m k = go (eqb (d .first) 0) (eqb page (d .page)) refl refl m (dirty-at page ds C)
+  where
+    go : (t u : Bool) → eqb (d .first) 0 ≡ t → eqb page (d .page) ≡ u → member page (unless t (d .page) (dirtyNumbers ds)) ≡ true
+        → (member page (dirtyNumbers ds) ≡ true → ((frame : ℕ) → isOf page (getD ds frame free) ≡ true → C) → C) → C
+    go true u e f m ih = ih m (λ frame. k (suc frame))
+    go false true e f m ih = k 0 (rw (e, f))
+    go false false e f m ih = ih (rw f at m) (λ frame. k (suc frame))
 
 -- ---- a search for the oldest first group, one frame taken as free
 
@@ -238,7 +254,11 @@ module _ (s : State) (f : Sound s) where
       all-free : (i : ℕ) → i < length (s .dirty) → getD (s .dirty) i free .first ≡ 0
       all-free i h =
           by-eq (entryAt s i .first) 0 (λ e. e)
-          (λ n. absurd (omega (arith, least i h, rank-free (entryAt s frame) z, rank-used (entryAt s i) n, firsts-small i, pages-small i n, f .pages .1)))
+          (λ n. absurd (omega (arith, least i h, rank-last (entryAt s frame) z, rank-used (entryAt s i) n, firsts-small i, pages-small i n, f .pages .1)))
+
+  -- no page is numbered 65,536
+  pub idle-rank : (frame : ℕ) → rankIn 65536 (entryAt s frame) ≡ rankOf (entryAt s frame)
+  idle-rank frame = rank-idle (entryAt s frame) (λ n. omega (arith, pages-small frame n, f .pages .1))
 
   -- a lower rank is no later first group
   pub first-least : (frame other : ℕ) → (entryAt s frame .first ≡ 0 → ⊥) → (entryAt s other .first ≡ 0 → ⊥) → rankOf (entryAt s frame) ≤ rankOf (entryAt s other)

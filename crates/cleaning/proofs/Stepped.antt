@@ -29,27 +29,51 @@ use Rattle.stepping.specs.Tables.{tableWith, tableOf}
 use Rattle.stepping.proofs.Held.{held-named}
 use Rattle.stepping.proofs.Refused.{numbered}
 use Rattle.cleaning.specs.declared.Change.{Change}
-use Rattle.cleaning.specs.Cleans.{entryAt, rankOf, TakesFrame, Named, Chosen, Fitting, changed, Cleaned, doneWith, Changes}
+use Rattle.cleaning.specs.Cleans.{entryAt, rankOf, rankIn, namedIn, TakesFrame, Named, Chosen, Fitting, changed, Cleaned, doneWith, Changes}
 use Rattle.cleaning.proofs.Decision.{Accepted, accepted, block-passed}
-use Rattle.cleaning.proofs.Choosing.{first-used, first-least, pages-small, frames-below, look-frame, look-least}
+use Rattle.cleaning.proofs.Choosing.{rank-zero, rank-named, dirty-at, first-used, idle-rank, first-least, named-here, pages-small, frames-below, look-frame, look-least}
 use Rattle.cleaning.proofs.Storing.{sound-clean}
 
 -- ---- the frame that is cleaned
 
 -- an idle cleaning's is the one that comes first
-pub chosen-first : (s : State) (frame : ℕ) → Sound s → (dirtyCount s ≡ 0 → ⊥) → s .cleaning ≡ Idle
+chosen-first : (s : State) (frame : ℕ) → Sound s → (dirtyCount s ≡ 0 → ⊥) → s .cleaning ≡ Idle
     → ((other : ℕ) → other < length (s .dirty) → rankOf (entryAt s frame) ≤ rankOf (entryAt s other)) → Chosen s frame
 chosen-first s frame f some e least =
     let used : entryAt s frame .first ≡ 0 → ⊥ = first-used s f frame some least in
     record { below = frames-below s f frame used; used = used; takes = subst (λ (c : Cleaning). TakesFrame c s frame) (sym e) least }
 
 -- a named page's is the frame that holds it
-pub chosen-named : (s : State) (page frame : ℕ) (c : Cleaning) → s .cleaning ≡ c → Named s page frame → TakesFrame c s frame → Chosen s frame
+chosen-named : (s : State) (page frame : ℕ) (c : Cleaning) → s .cleaning ≡ c → Named s page frame → TakesFrame c s frame → Chosen s frame
 chosen-named s page frame c e n t = record { below = n .below; used = n .used; takes = subst (λ (x : Cleaning). TakesFrame x s frame) (sym e) t }
 
 -- the page that a cleaning names is dirty
-pub names-dirty : (s : State) (c : Cleaning) → sound s ≡ true → s .cleaning ≡ c → names c (dirtyNumbers (s .dirty)) ≡ true
+names-dirty : (s : State) (c : Cleaning) → sound s ≡ true → s .cleaning ≡ c → names c (dirtyNumbers (s .dirty)) ≡ true
 names-dirty s c h e = subst (λ (x : Cleaning). names x (dirtyNumbers (s .dirty)) ≡ true) e (sound-of s h .cleaning)
+
+-- the frame with the least rank is the one that is cleaned
+pub chosen-least : (s : State) (frame : ℕ) → sound s ≡ true → (dirtyCount s ≡ 0 → ⊥)
+    → ((other : ℕ) → rankIn (namedIn (s .cleaning)) (entryAt s frame) ≤ rankIn (namedIn (s .cleaning)) (entryAt s other)) → Chosen s frame
+chosen-least s frame h some least = go (s .cleaning) refl
+  where
+    f : Sound s
+    f = sound-of s h
+
+    by-name : (page : ℕ) (c : Cleaning) → s .cleaning ≡ c → namedIn c ≡ page → member page (dirtyNumbers (s .dirty)) ≡ true → (page ≡ entryAt s frame .page → TakesFrame c s frame) → Chosen s frame
+    by-name page c e is m takes =
+        let named : namedIn (s .cleaning) ≡ page = ap namedIn e ∙ is in
+        let low : (other : ℕ) → rankIn page (entryAt s frame) ≤ rankIn page (entryAt s other) = subst (λ (n : ℕ). (other : ℕ) → rankIn n (entryAt s frame) ≤ rankIn n (entryAt s other)) named least in
+        let zero : rankIn page (entryAt s frame) ≡ 0 = dirty-at page (s .dirty) _ m (λ other o. omega (arith, low other, rank-named page (entryAt s other) o)) in
+        let n = named-here s f page frame (rank-zero page (entryAt s frame) zero) in
+        chosen-named s page frame c e n (takes (n .pageIs))
+
+    go : (c : Cleaning) → s .cleaning ≡ c → Chosen s frame
+    go Idle e =
+        let low : (other : ℕ) → rankIn 65536 (entryAt s frame) ≤ rankIn 65536 (entryAt s other) = subst (λ (n : ℕ). (other : ℕ) → rankIn n (entryAt s frame) ≤ rankIn n (entryAt s other)) (ap namedIn e) least in
+        chosen-first s frame f some e (λ other l. omega (arith, low other, idle-rank s f frame, idle-rank s f other))
+    go (First page) e = by-name page (First page) e refl (names-dirty s (First page) h e) (λ p. p)
+    go (Second page) e = by-name page (Second page) e refl (names-dirty s (Second page) h e) (λ p. p)
+    go (Third page) e = by-name page (Third page) e refl (names-dirty s (Third page) h e) (λ p. p)
 
 -- ---- THE ACCEPTED STEP
 module _ (s : State) (log home frames : List ℕ) (accepts : cleanRefusalOf s log home frames ≡ 0) (frame : ℕ) (chosen : Chosen s frame) (long : length (s .dirty) ≡ 32) where

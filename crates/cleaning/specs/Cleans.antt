@@ -30,6 +30,17 @@ entryAt state frame = getD (state .dirty) frame free
 abbrev pub rankOf : Dirty → ℕ
 rankOf entry = cond (eqb (entry .first) 0) (2 ^ 64 - 1) (entry .first * 65536 + entry .page)
 
+-- the same with the page that a cleaning names before all others
+abbrev pub rankIn : ℕ → Dirty → ℕ
+rankIn named entry = cond (eqb (entry .first) 0) (2 ^ 64 - 1) (cond (eqb named (entry .page)) 0 (entry .first * 65536 + entry .page))
+
+-- the page that a cleaning names; 65,536, which is no page's number, where it names none
+abbrev pub namedIn : Cleaning → ℕ
+namedIn Idle = 65536
+namedIn (First page) = page
+namedIn (Second page) = page
+namedIn (Third page) = page
+
 -- a named page is in its frame; an idle cleaning takes the frame that comes first
 abbrev pub TakesFrame : Cleaning → State → ℕ → Type 0
 TakesFrame Idle state frame = (other : ℕ) → other < length (state .dirty) → rankOf (entryAt state frame) ≤ rankOf (entryAt state other)

@@ -14,13 +14,13 @@ ghost use lib.ListN.{length, set};
 ghost use Rattle.promises.specs.Answers.{refusalIn};
 ghost use Rattle.promises.specs.Areas.{logLength, pageAt, firstHalf, secondHalf, withFirstHalf, withSecondHalf};
 ghost use Rattle.promises.specs.Sums.{dirtyCount, firstGroups, smallest};
-ghost use Rattle.promises.specs.Sound.{sound, member, dirtyNumbers};
+ghost use Rattle.promises.specs.Sound.{sound};
 ghost use Rattle.soundness.specs.Summed.{Summed, Small};
 ghost use Rattle.promises.specs.CleanStep.{thirdRefusal, cleanRefusal, cleanRefusalOf, CleanSteps};
 ghost use Rattle.promises.specs.declared.Cleaning.the-variants.{Second, Third};
 ghost use Rattle.promises.proofs.Changes.{cleaningTo};
 ghost use Rattle.table.specs.Search.{free};
-ghost use Rattle.cleaning.specs.Cleans.{entryAt, rankOf, Named, Chosen, Fitting, changed, Cleaned, doneWith, Changes};
+ghost use Rattle.cleaning.specs.Cleans.{entryAt, rankIn, namedIn, Chosen, Fitting, changed, Cleaned, doneWith, Changes};
 
 // A page's number as a count.
 fn wide(page: u16) -> usize
@@ -106,15 +106,31 @@ pub fn answer_of(number: u64) -> Answer
     Answer::Refused(Refusal::HeldBack)
 }
 
-// An entry's place in the order of cleaning: by first group, then by page; a free frame comes last.
-pub fn rank(entry: Dirty) -> u64
+// An entry's place in the order of cleaning: the named page first, then by first group and by page; a free frame comes last.
+pub fn rank(entry: Dirty, named: u64) -> u64
     requires { ⌜ entry .first < 2 ^ 48 ⌝ }
-    ensures { λ r. ⌜ r ≡ rankOf entry ⌝ }
+    ensures { λ r. ⌜ r ≡ rankIn named entry ⌝ }
 {
+    let page = entry.page as u64;
     if entry.first == 0 {
         return 18446744073709551615;
     }
-    entry.first * 65536 + entry.page as u64
+    if named == page {
+        return 0;
+    }
+    entry.first * 65536 + page
+}
+
+// The page that a cleaning names; 65,536, which is no page's number, where it names none.
+fn named_in(cleaning: Cleaning) -> u64
+    ensures { λ r. ⌜ r ≡ namedIn cleaning ⌝ }
+{
+    match cleaning {
+        Cleaning::Idle => 65536,
+        Cleaning::First(page) => page as u64,
+        Cleaning::Second(page) => page as u64,
+        Cleaning::Third(page) => page as u64,
+    }
 }
 
 // A frame and its entry.
@@ -123,11 +139,13 @@ pub struct Choice {
     pub entry: Dirty,
 }
 
-// The frame that comes first in the order of cleaning, where so many pages are dirty.
-pub fn first_frame(state: State, count: usize) -> Choice
-    requires { ⌜ (count ≡ dirtyCount state) × ((frame : ℕ) → entryAt state frame .first < 2 ^ 48) ⌝ }
-    ensures { λ r. ⌜ (r .frame < 32) × (r .entry ≡ entryAt state (r .frame)) × ((other : ℕ) → other < 32 → rankOf (entryAt state (r .frame)) ≤ rankOf (entryAt state other)) ⌝ }
+// The frame of the page that is cleaned, where so many are dirty: the one that comes first in the order of cleaning.
+pub fn frame_to_clean(state: State, count: usize) -> Choice
+    requires { ⌜ (sound state ≡ true) × (dirtyCount state ≡ 0 → ⊥) × (count ≡ dirtyCount state) ⌝ }
+    ensures { λ r. ⌜ Chosen state (r .frame) × (r .entry ≡ entryAt state (r .frame)) ⌝ }
 {
+    let cleaning = state.cleaning;
+    let named = named_in(cleaning);
     let dirty = state.dirty;
     let mut best = 0;
     let mut least: u64 = 18446744073709551615;
@@ -136,7 +154,7 @@ pub fn first_frame(state: State, count: usize) -> Choice
     while 0 < left {
         let entry = dirty[i];
         if entry.first != 0 {
-            let own = rank(entry);
+            let own = rank(entry, named);
             if own < least {
                 best = i;
                 least = own;
@@ -147,39 +165,6 @@ pub fn first_frame(state: State, count: usize) -> Choice
     }
     let entry = dirty[best];
     Choice { frame: best, entry }
-}
-
-// The frame of a dirty page. In a sound state the search ends at it.
-pub fn named_frame(state: State, page: u16) -> Choice
-    requires { ⌜ (sound state ≡ true) × (member page (dirtyNumbers (state .dirty)) ≡ true) ⌝ }
-    ensures { λ r. ⌜ Named state page (r .frame) × (r .entry ≡ entryAt state (r .frame)) ⌝ }
-{
-    let frames = state.frames;
-    let dirty = state.dirty;
-    let mut i = 0;
-    while i < frames {
-        let entry = dirty[i];
-        if (entry.first != 0) & (page == entry.page) {
-            return Choice { frame: i, entry };
-        }
-        i += 1;
-    }
-    let entry = Dirty { page, first: 0 };
-    Choice { frame: i, entry }
-}
-
-// The frame of the page that is cleaned, where so many are dirty: the named one's, or where none is named the one that comes first.
-pub fn frame_to_clean(state: State, count: usize) -> Choice
-    requires { ⌜ (sound state ≡ true) × (dirtyCount state ≡ 0 → ⊥) × (count ≡ dirtyCount state) ⌝ }
-    ensures { λ r. ⌜ Chosen state (r .frame) × (r .entry ≡ entryAt state (r .frame)) ⌝ }
-{
-    let cleaning = state.cleaning;
-    match cleaning {
-        Cleaning::Idle => first_frame(state, count),
-        Cleaning::First(page) => named_frame(state, page),
-        Cleaning::Second(page) => named_frame(state, page),
-        Cleaning::Third(page) => named_frame(state, page),
-    }
 }
 
 // What a step changes in the state: the entry of one frame, the next sequence and the cleaning.

@@ -1,79 +1,123 @@
--- `cleaning::frame_to_clean` meets its contract: the named page's frame, or the one that comes first.
+-- `cleaning::frame_to_clean` meets its contract: the least rank of those passed, and the count of dirty pages that are left.
 -- Assumes nothing.
-use mathlib.Core.Path.{_≡_}
-use lib.ListN.{length}
+use Prim.Native.Nat.{ℕ, _+_, _-_, _≤_, _<_}
+use mathlib.Core.Path.{_≡_, refl, sym, _∙_, subst, subst₂}
+use mathlib.Core.Logic.{⊎-elim}
+use lib.ListN.{length, drop}
+use Rattle.promises.specs.Sums.{firstGroups}
 use Rattle.promises.proofs.Soundness.{sound-of}
 use Rattle.table.proofs.Scans.{length-mapped}
-use Rattle.cleaning.proofs.Choosing.{firsts-small}
-use Rattle.cleaning.proofs.Stepped.{chosen-first, chosen-named, names-dirty}
-use native.Mathlib.Omega.{arith}
+use Rattle.cleaning.specs.Cleans.{entryAt, rankIn}
+use Rattle.cleaning.proofs.Choosing.{more-left, left-used, left-free, Leads, leads-start, leads-lower, leads-kept, leads-free, leads-end, firsts-small}
+use Rattle.cleaning.proofs.Stepped.{chosen-least}
 use borrow.Author.Needs.{needs}
+use native.Mathlib.Omega.{arith}
 use Rattle.cleaning.proofs.frame_to_clean.Statement.{statement}
 use Rattle.cleaning.proofs.frame_to_clean.Tie as tie
 
-long-at : (c : tie.Start) → length (c .args .state .dirty) ≡ 32
+abbrev Inv-loop : tie.InvT-loop
+Inv-loop count named dirty best₀ least₀ left₀ i₀ best least left i = (i ≤ 32) × (best < 32) × (left ≡ length (firstGroups (drop i dirty))) × Leads named dirty best least i
+
+abbrev μ-loop : tie.MeasureT-loop
+μ-loop count named dirty best₀ least₀ left₀ i₀ best least left i = 32 - i
+
+long-at : (c : tie.Start Inv-loop μ-loop) → length (c .args .state .dirty) ≡ 32
 long-at c = search (needs, length-mapped)
 
-enum-told : tie.Need-enum-told
-enum-told c = search needs
+-- a page is left, so an entry is
+here-at : (c : tie.In-loop Inv-loop μ-loop) → c .before .loop .i < 32
+here-at c =
+    let ds = c .before .before .before .before .args .state .dirty in
+    let more : c .before .loop .i < length (c .before .before .before .before .args .state .dirty) = more-left ds (c .before .loop .i) (omega (arith, c .before .loop .inv .2, c .loop-test .taken)) in
+    omega (arith, long-at (c .before .before .before .before))
 
-first-frame-requires : tie.Need-first-frame-requires
-first-frame-requires c κs = ((c .before .before) .pre .2, firsts-small ((c .before .before) .args .state) (sound-of _ ((c .before .before) .pre .0)))
+named-in-requires : tie.Need-named-in-requires Inv-loop μ-loop
+named-in-requires c κs = search needs
 
-enum-known-cleaning : tie.Need-enum-known-cleaning
-enum-known-cleaning c = search needs
+loop-holds : tie.Need-loop-holds Inv-loop μ-loop
+loop-holds c = (omega arith, omega arith, (c .before .before) .pre .2, leads-start ((c .before) .named-in .result) ((c .before .before) .args .state .dirty))
 
-named-frame-requires : tie.Need-named-frame-requires
-named-frame-requires c κs = ((c .before .before .before) .pre .0, names-dirty ((c .before .before .before) .args .state) _ ((c .before .before .before) .pre .0) ((c .before) .cleaning .given .1))
+mul-entry : tie.Need-mul-entry Inv-loop μ-loop
+mul-entry c = let h = here-at c in omega arith
 
-enum-known-cleaning-2 : tie.Need-enum-known-cleaning-2
-enum-known-cleaning-2 c = search needs
+array-copy-out-entry : tie.Need-array-copy-out-entry Inv-loop μ-loop
+array-copy-out-entry c = let h = here-at c in omega arith
 
-named-frame-requires-2 : tie.Need-named-frame-requires-2
-named-frame-requires-2 c κs = ((c .before .before .before) .pre .0, names-dirty ((c .before .before .before) .args .state) _ ((c .before .before .before) .pre .0) ((c .before) .cleaning2 .given .1))
+rank-requires : tie.Need-rank-requires Inv-loop μ-loop
+rank-requires c κs = firsts-small ((c .before .before .before .before .before .before .before) .args .state) (sound-of _ ((c .before .before .before .before .before .before .before) .pre .0)) ((c .before .before .before .before) .loop .i)
 
-enum-known-cleaning-3 : tie.Need-enum-known-cleaning-3
-enum-known-cleaning-3 c = search needs
+sub-left : tie.Need-sub-left Inv-loop μ-loop
+sub-left c = search needs
 
-named-frame-requires-3 : tie.Need-named-frame-requires-3
-named-frame-requires-3 c κs = ((c .before .before .before) .pre .0, names-dirty ((c .before .before .before) .args .state) _ ((c .before .before .before) .pre .0) ((c .before) .cleaning3 .given .1))
+add-i : tie.Need-add-i Inv-loop μ-loop
+add-i c = search needs
 
-returns : tie.Need-returns
+loop-less : tie.Need-loop-less Inv-loop μ-loop
+loop-less c = let h = here-at ((c .before .before .before)) in omega arith
+
+loop-again : tie.Need-loop-again Inv-loop μ-loop
+loop-again c =
+    let ds = (c .before .before .before .before .before .before .before) .args .state .dirty in
+    let named = (c .before .before .before .before .before .before) .named-in .result in
+    let l = (c .before .before .before .before) .loop in
+    let few = here-at ((c .before .before .before)) in
+    let long : length ds ≡ 32 = long-at ((c .before .before .before .before .before .before .before)) in
+    let here : l .i < length ds = omega arith in
+    ⊎-elim
+    (λ w. ⊎-elim
+    (λ v. (
+      omega arith,
+      omega (arith, w .3, v .1),
+      w .5 ∙ left-used ds (l .left) (l .i) (l .inv .2) here (w .0 .taken),
+      subst₂ (λ (b m : ℕ). Leads named ds b m (l .i + 1)) (sym (w .3 ∙ v .1)) (sym (w .4 ∙ v .2)) (leads-lower named ds (l .best) (l .least) (l .i) (l .inv .3) (w .1 .result) (w .1 .ensures) (v .0 .taken)),
+    ))
+    (λ v. (
+      omega arith,
+      omega (arith, w .3, v .1),
+      w .5 ∙ left-used ds (l .left) (l .i) (l .inv .2) here (w .0 .taken),
+      subst₂ (λ (b m : ℕ). Leads named ds b m (l .i + 1)) (sym (w .3 ∙ v .1)) (sym (w .4 ∙ v .2)) (leads-kept named ds (l .best) (l .least) (l .i) (l .inv .3) (w .1 .result) (w .1 .ensures) (omega (arith, w .1 .ok)) (v .0 .left)),
+    ))
+    (w .2 .came))
+    (λ w. (
+      omega arith,
+      omega (arith, w .1),
+      w .3 ∙ left-free ds (l .left) (l .i) (l .inv .2) here (w .0 .left),
+      subst₂ (λ (b m : ℕ). Leads named ds b m (l .i + 1)) (sym (w .1)) (sym (w .2)) (leads-free named ds (l .best) (l .least) (l .i) (l .inv .3) (w .0 .left)),
+    ))
+    (c .if1 .came)
+
+mul-entry-2 : tie.Need-mul-entry-2 Inv-loop μ-loop
+mul-entry-2 c = search needs
+
+array-copy-out-entry-2 : tie.Need-array-copy-out-entry-2 Inv-loop μ-loop
+array-copy-out-entry-2 c = search needs
+
+returns : tie.Need-returns Inv-loop μ-loop
 returns c =
-    let s = (c .before .before .before) .args .state in
-    let m = c .first-frame .ensures in (
-      chosen-first s _ (sound-of _ ((c .before .before .before) .pre .0)) ((c .before .before .before) .pre .1) ((c .before) .enum-told .given .1) (λ other h. m .2 other (omega (arith, long-at ((c .before .before .before))))),
-      m .1,
+    let s = (c .before .before .before .before .before) .args .state in
+    let l = (c .before .before) .loop in
+    let none : length (firstGroups (drop (l .i) (s .dirty))) ≡ 0 = omega (arith, l .inv .2, (c .before) .loop-test .left) in
+    let least = leads-end ((c .before .before .before .before) .named-in .result) (s .dirty) (l .best) (l .least) (l .i) (l .inv .3) none in (
+      chosen-least s (l .best) ((c .before .before .before .before .before) .pre .0) ((c .before .before .before .before .before) .pre .1)
+          (subst (λ (n : ℕ). (other : ℕ) → rankIn n (entryAt s (l .best)) ≤ rankIn n (entryAt s other)) ((c .before .before .before .before) .named-in .ensures) least),
+      refl,
     )
-
-returns-2 : tie.Need-returns-2
-returns-2 c =
-    let m = c .named-frame .ensures in
-    (chosen-named ((c .before .before .before .before) .args .state) _ _ _ ((c .before .before) .cleaning .given .1) (m .0) (m .0 .pageIs), m .1)
-
-returns-3 : tie.Need-returns-3
-returns-3 c =
-    let m = c .named-frame2 .ensures in
-    (chosen-named ((c .before .before .before .before) .args .state) _ _ _ ((c .before .before) .cleaning2 .given .1) (m .0) (m .0 .pageIs), m .1)
-
-returns-4 : tie.Need-returns-4
-returns-4 c =
-    let m = c .named-frame3 .ensures in
-    (chosen-named ((c .before .before .before .before) .args .state) _ _ _ ((c .before .before) .cleaning3 .given .1) (m .0) (m .0 .pageIs), m .1)
 
 pub frame-to-clean-spec : {M : Type 1} → statement M
 frame-to-clean-spec =
     tie.close
     (tie.spec
-    enum-told
-    first-frame-requires
-    enum-known-cleaning
-    named-frame-requires
-    enum-known-cleaning-2
-    named-frame-requires-2
-    enum-known-cleaning-3
-    named-frame-requires-3
-    returns
-    returns-2
-    returns-3
-    returns-4)
+    Inv-loop
+    μ-loop
+    named-in-requires
+    loop-holds
+    mul-entry
+    array-copy-out-entry
+    rank-requires
+    sub-left
+    add-i
+    loop-less
+    loop-again
+    mul-entry-2
+    array-copy-out-entry-2
+    returns)
