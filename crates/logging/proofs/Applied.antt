@@ -27,7 +27,7 @@ use Rattle.table.specs.Seats.{entryIn, dirtyIn, seated}
 use Rattle.table.proofs.Scans.{rest, rest-cons, rest-end}
 use Rattle.table.proofs.Applying.{applies-none, applies-more}
 use Rattle.stepping.specs.Tables.{tableWith, tableOf}
-use Rattle.logging.specs.Logging.{noStaged, sizeOf, groupOf, oldestGroup, commitAt, Commits}
+use Rattle.logging.specs.Logging.{noStaged, sizeOf, groupOf, Placed, oldestGroup, commitAt, Commits}
 use Rattle.logging.proofs.Packing.{seats-hold}
 
 -- the update that the code hands over is the staged one
@@ -39,6 +39,12 @@ staged-applied t r home frames frames′ staging x group at long page offset a l
     subst (λ (u : Update). Applies t home frames u group r frames′)
     (ap (λ (bytes : List ℕ). record { page = page; offset = offset; bytes = bytes }) (from-to staging at long) ∙ rw (a, l, p, o))
 
+-- as many seats as before: an update of the group is placed as before
+pub still-placed : (pages n m : ℕ) (staged : List Staged) (i size : ℕ) → m ≡ n → ((j : ℕ) → j < size → Placed pages n (getD staged j noStaged)) → i < size
+    → Placed pages m (getD staged i noStaged)
+still-placed pages n m staged i size e f h = subst (λ (k : ℕ). Placed pages k (getD staged i noStaged)) (sym e) (f i h)
+
+-- the loop's test
 pub goes-on : (fits : Bool) (left : ℕ) → (fits && ltb 0 left) ≡ true → (fits ≡ true) × (0 < left)
 goes-on fits left e = let b = and-both fits (ltb 0 left) e in (b .0, ltb-true 0 left (b .1))
 

@@ -225,22 +225,24 @@ pub fn log_step(
         };
     }
     let keep_from = state.next - sums.held as u64;
+    let next = state.next + 1;
     let size = logging::group_size(state);
     if state.stored < size {
         logging::store_update(state, log, staging, keep_from);
+        let stored = state.stored + 1;
         let cleaning = state.cleaning;
         return LogOutcome {
             state: State {
                 pages: state.pages,
                 slots: state.slots,
                 frames: state.frames,
-                next: state.next + 1,
+                next,
                 ticket: state.ticket,
                 dirty: before,
                 staged: waiting,
                 groups: sizes,
                 queued: state.queued,
-                stored: state.stored + 1,
+                stored,
                 reserved: state.reserved,
                 described: state.described,
                 cleaning,
@@ -257,7 +259,7 @@ pub fn log_step(
             pages: state.pages,
             slots: state.slots,
             frames: state.frames,
-            next: state.next + 1,
+            next,
             ticket: state.ticket + 1,
             dirty,
             staged,

@@ -1,14 +1,12 @@
 -- `logging::apply_group` meets its contract: what the loop still has to apply makes the whole.
 -- Assumes nothing.
-use Prim.Native.Nat.{ℕ, _≤_, _<_, _-_}
-use mathlib.Core.Path.{_≡_, refl, sym, _∙_, subst}
+use Prim.Native.Nat.{_≤_, _<_, _-_}
+use mathlib.Core.Path.{_≡_, refl, _∙_}
 use mathlib.Core.Bool.{false, not}
-use lib.ListN.{length, getD}
-use Rattle.promises.specs.Areas.{pagesIn}
+use lib.ListN.{length}
 use Rattle.table.specs.Seats.{seated}
 use Rattle.table.proofs.Scans.{length-mapped}
-use Rattle.logging.specs.Logging.{noStaged, Placed}
-use Rattle.logging.proofs.Applied.{goes-on, LeftTo, left-start, left-less, left-ends}
+use Rattle.logging.proofs.Applied.{still-placed, goes-on, LeftTo, left-start, left-less, left-ends}
 use borrow.Author.Needs.{needs}
 use native.Mathlib.Omega.{arith}
 use Rattle.logging.proofs.apply_group.Statement.{statement}
@@ -31,7 +29,9 @@ loop-holds c =
     (omega arith, refl, refl, left-start (a .t2) (a .size) (a .home .now) (a .staging .now) (a .group) (seated false (a .seats .now)) (a .frames .now) (a .size - a .size) (omega arith))
 
 sub-i : tie.Need-sub-i Inv-loop μ-loop
-sub-i c = search needs
+sub-i c =
+    let on : 0 < (c .before) .loop .left = goes-on ((c .before) .loop .fits) ((c .before) .loop .left) (c .loop-test .taken) .1 in
+    omega arith
 
 mul-update : tie.Need-mul-update Inv-loop μ-loop
 mul-update c =
@@ -50,7 +50,7 @@ apply-staged-requires c κs =
     let l = (c .before .before .before .before) .loop in
     let on : 0 < (c .before .before .before .before) .loop .left = goes-on ((c .before .before .before .before) .loop .fits) ((c .before .before .before .before) .loop .left) ((c .before .before .before) .loop-test .taken) .1 in (
       record { few = omega (arith, p .few); pages = p .pages; framesLong = omega (arith, p .framesLong); stagingLong = omega (arith, p .stagingLong); started = p .started; below = p .below },
-      subst (λ (n : ℕ). Placed (pagesIn (length (a .home .now))) n (getD (a .t2) (a .size - l .left) noStaged)) (sym (l .inv .1)) ((c .before .before .before .before .before .before .before .before .before) .pre .2 (a .size - l .left) (omega arith)),
+      still-placed _ _ _ (a .t2) _ (a .size) (l .inv .1) ((c .before .before .before .before .before .before .before .before .before) .pre .2) (omega arith),
     )
 
 sub-left : tie.Need-sub-left Inv-loop μ-loop

@@ -39,7 +39,7 @@ module _ (c : tie.Else1) where
 
 -- the group's size
 size-at : (c : tie.After-group-size) → c .group-size .result ≤ 16
-size-at c = let r = ready-at (c .before .before) .size in omega (arith, c .group-size .ensures)
+size-at c = let r = ready-at (c .before .before .before) .size in omega (arith, c .group-size .ensures)
 
 figures-of-requires : tie.Need-figures-of-requires
 figures-of-requires c κs = search needs
@@ -61,18 +61,18 @@ returns c =
 sub-keep-from : tie.Need-sub-keep-from
 sub-keep-from c = let h = held-within ((c .before .before .before .before .before .before .before .before .before .before .before .before .before) .args .state) _ (sums-at (c .before)) in omega arith
 
+add-next : tie.Need-add-next
+add-next c = let n = ready-at (c .before .before) .next in omega arith
+
 group-size-requires : tie.Need-group-size-requires
 group-size-requires c κs = search needs
 
 store-update-requires : tie.Need-store-update-requires
 store-update-requires c κs =
-    (omega (arith, (c .before .before .before) .group-size .ensures, (c .before) .if2 .taken), ready-alone ((c .before .before .before .before .before .before .before .before .before .before .before .before .before .before .before .before .before) .args .state) _ _ _ _ (ready-at (c .before .before .before .before .before)))
+    (omega (arith, (c .before .before .before) .group-size .ensures, (c .before) .if2 .taken), ready-alone ((c .before .before .before .before .before .before .before .before .before .before .before .before .before .before .before .before .before .before) .args .state) _ _ _ _ (ready-at (c .before .before .before .before .before .before)))
 
-add-t31 : tie.Need-add-t31
-add-t31 c = let n = ready-at (c .before .before .before .before .before .before .before .before .before) .next in omega arith
-
-add-t32 : tie.Need-add-t32
-add-t32 c = search needs
+add-stored : tie.Need-add-stored
+add-stored c = search needs
 
 same-length : tie.Need-same-length
 same-length c = search needs
@@ -81,10 +81,10 @@ returns-2 : tie.Need-returns-2
 returns-2 c =
     let a = (c .before .before .before .before .before .before .before .before .before .before .before .before .before .before .before .before .before .before .before .before .before .before) .args in
     update-steps (a .state) (a .log .now) (a .home .now) (a .frames .now) (a .staging .now) (none-at (c .before .before .before .before .before .before .before .before .before .before)) _ (kept-from (a .state) _ (sums-at (c .before .before .before .before .before .before .before .before .before .before))) _
-    (omega (arith, (c .before .before .before .before .before .before .before .before) .group-size .ensures, (c .before .before .before .before .before .before) .if2 .taken)) ((c .before .before .before .before) .store-update .ensures)
+    (omega (arith, (c .before .before .before .before .before .before .before) .group-size .ensures, (c .before .before .before .before .before) .if2 .taken)) ((c .before .before .before) .store-update .ensures)
 
 store-commit-requires : tie.Need-store-commit-requires
-store-commit-requires c κs = ready-at (c .before .before .before .before .before .before)
+store-commit-requires c κs = ready-at (c .before .before .before .before .before .before .before)
 
 staged-shifted-requires : tie.Need-staged-shifted-requires
 staged-shifted-requires c κs = let h = size-at (c .before .before .before .before .before .before .before .before .before) in omega arith
@@ -95,17 +95,14 @@ groups-shifted-requires c κs = search needs
 cleaning-left-requires : tie.Need-cleaning-left-requires
 cleaning-left-requires c κs = let h = size-at (c .before .before .before .before .before .before .before .before .before .before .before) in omega arith
 
-add-t27 : tie.Need-add-t27
-add-t27 c = let n = ready-at (c .before .before .before .before .before .before .before .before .before .before .before .before .before .before .before) .next in omega arith
+add-t29 : tie.Need-add-t29
+add-t29 c = let r = ready-at (c .before .before .before .before .before .before .before .before .before .before .before .before .before .before .before .before) in let h = r .ticket in let n = r .next in omega arith
 
-add-t39 : tie.Need-add-t39
-add-t39 c = let r = ready-at (c .before .before .before .before .before .before .before .before .before .before .before .before .before .before .before .before) in let h = r .ticket in let n = r .next in omega arith
+sub-t23 : tie.Need-sub-t23
+sub-t23 c = let q = ready-at (c .before .before .before .before .before .before .before .before .before .before .before .before .before .before .before .before .before) .queued in omega arith
 
-sub-t21 : tie.Need-sub-t21
-sub-t21 c = let q = ready-at (c .before .before .before .before .before .before .before .before .before .before .before .before .before .before .before .before .before) .queued in omega arith
-
-add-t41 : tie.Need-add-t41
-add-t41 c = let r = ready-at (c .before .before .before .before .before .before .before .before .before .before .before .before .before .before .before .before .before .before) in let h = r .ticket in let n = r .next in omega arith
+add-t40 : tie.Need-add-t40
+add-t40 c = let r = ready-at (c .before .before .before .before .before .before .before .before .before .before .before .before .before .before .before .before .before .before) in let h = r .ticket in let n = r .next in omega arith
 
 same-length-2 : tie.Need-same-length-2
 same-length-2 c = search needs
@@ -116,10 +113,10 @@ same-length-3 c = search needs
 returns-3 : tie.Need-returns-3
 returns-3 c =
     let a = (c .before .before .before .before .before .before .before .before .before .before .before .before .before .before .before .before .before .before .before .before .before .before .before .before .before .before .before .before .before .before) .args in
-    let g = (c .before .before .before .before .before .before .before .before .before .before .before .before .before .before .before .before) .group-size .ensures in
+    let g = (c .before .before .before .before .before .before .before .before .before .before .before .before .before .before .before) .group-size .ensures in
     commit-steps (a .state) (a .log .now) (a .home .now) (a .frames .now) (a .staging .now) (none-at (c .before .before .before .before .before .before .before .before .before .before .before .before .before .before .before .before .before .before)) _ (kept-from (a .state) _ (sums-at (c .before .before .before .before .before .before .before .before .before .before .before .before .before .before .before .before .before .before))) _ _ _ _ _ _ _ g
-    ((c .before .before .before .before .before .before) .staged-shifted .ensures) ((c .before .before .before .before .before) .groups-shifted .ensures) ((c .before .before .before .before) .cleaning-left .ensures)
-    (omega (arith, g, (c .before .before .before .before .before .before .before .before .before .before .before .before .before .before) .if2 .left)) ((c .before .before .before .before .before .before .before .before .before .before .before) .store-commit .ensures)
+    ((c .before .before .before .before .before) .staged-shifted .ensures) ((c .before .before .before .before) .groups-shifted .ensures) ((c .before .before .before) .cleaning-left .ensures)
+    (omega (arith, g, (c .before .before .before .before .before .before .before .before .before .before .before .before .before) .if2 .left)) ((c .before .before .before .before .before .before .before .before .before .before) .store-commit .ensures)
 
 pub log-step-spec : {M : Type 1} → statement M
 log-step-spec =
@@ -131,20 +128,19 @@ log-step-spec =
     refusal-of-requires
     returns
     sub-keep-from
+    add-next
     group-size-requires
     store-update-requires
-    add-t31
-    add-t32
+    add-stored
     same-length
     returns-2
     store-commit-requires
     staged-shifted-requires
     groups-shifted-requires
     cleaning-left-requires
-    add-t27
-    add-t39
-    sub-t21
-    add-t41
+    add-t29
+    sub-t23
+    add-t40
     same-length-2
     same-length-3
     returns-3)
