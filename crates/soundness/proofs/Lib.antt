@@ -1,4 +1,5 @@
 pub mod Scans
+pub mod Surveys
 pub mod Marks
 pub mod Counts
 pub mod Entries

@@ -38,7 +38,7 @@ fn lower(a: u64, b: u64) -> u64
     a
 }
 
-// One pass over the frames.
+// One pass over the frames; four free ones are passed over at once.
 pub fn survey_of(dirty: [Dirty; 32], pages: usize, frames: usize, next: u64, own: u64) -> Survey
     ensures { λ r. ⌜ (r .legal ≡ entriesLegal pages frames next 0 dirty) × (r .count ≡ length (firstGroups dirty)) × (r .count ≤ 32)
         × (r .low ≡ smallest own (firstGroups dirty)) × (r .low ≤ own)
@@ -50,14 +50,25 @@ pub fn survey_of(dirty: [Dirty; 32], pages: usize, frames: usize, next: u64, own
     let mut legal = true;
     let mut i = 0;
     while i < 32 {
-        let entry = dirty[i];
-        if entry.first != 0 {
-            legal = legal & entry_sound(entry, i, pages, frames, next);
-            low = lower(low, entry.first);
-            list[count] = entry.page;
-            count += 1;
+        let one = dirty[i];
+        let two = dirty[i + 1];
+        let three = dirty[i + 2];
+        let four = dirty[i + 3];
+        if (one.first != 0) | (two.first != 0) | (three.first != 0) | (four.first != 0) {
+            let end = i + 4;
+            let mut j = i;
+            while j < end {
+                let entry = dirty[j];
+                if entry.first != 0 {
+                    legal = legal & entry_sound(entry, j, pages, frames, next);
+                    low = lower(low, entry.first);
+                    list[count] = entry.page;
+                    count += 1;
+                }
+                j += 1;
+            }
         }
-        i += 1;
+        i += 4;
     }
     Survey {
         legal,
