@@ -1,5 +1,6 @@
 pub mod Scans
 pub mod Surveys
+pub mod Bits
 pub mod Marks
 pub mod Counts
 pub mod Entries

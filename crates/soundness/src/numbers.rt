@@ -39,12 +39,12 @@ fn few_distinct(numbers: &[u16]) -> bool
     true
 }
 
-// The same by a mark for each number below 4,096: for many numbers.
+// The same by a mark for each number below 4,096, in the bits of 64 words: for many numbers.
 // From the last to the first, so that the marks are those of the later numbers.
 fn many_distinct(numbers: &[u16]) -> bool
     ensures { λ r. ⌜ r ≡ distinct (now (numbers .entry)) ⌝ }
 {
-    let mut seen = [0u8; 4096];
+    let mut seen = [0u64; 64];
     let mut i = numbers.len();
     while 0 < i {
         i -= 1;
@@ -52,10 +52,13 @@ fn many_distinct(numbers: &[u16]) -> bool
         if 4096 <= number {
             return few_distinct(numbers);
         }
-        if seen[number] != 0 {
+        let word = number / 64;
+        let place = number % 64;
+        let held = seen[word];
+        if (held >> place) % 2 != 0 {
             return false;
         }
-        seen[number] = 1;
+        seen[word] = held + (1u64 << place);
     }
     true
 }
