@@ -13,7 +13,7 @@ ghost use Rattle.promises.specs.End.{endRefusal};
 ghost use Rattle.promises.specs.Settled.{settledRefusal};
 ghost use Rattle.promises.specs.Read.{readRefusal};
 ghost use Rattle.soundness.specs.Summed.{Summed, Small};
-ghost use Rattle.soundness.specs.Parts.{Judges};
+ghost use Rattle.soundness.specs.Verdicts.{Judges};
 ghost use Rattle.queueing.specs.Queueing.{describeNumber};
 use block::Block;
 use promises::Refusal;

@@ -5,4 +5,3 @@ pub mod Marks
 pub mod Counts
 pub mod Entries
 pub mod Decided
-pub mod Whole

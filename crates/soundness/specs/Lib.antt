@@ -1,3 +1,3 @@
 pub mod Tests
 pub mod Summed
-pub mod Parts
+pub mod Verdicts

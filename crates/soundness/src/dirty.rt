@@ -11,13 +11,12 @@ use crate::wide;
 use promises::Cleaning;
 use promises::Dirty;
 
-// What one pass over the frames tells: whether every entry is as it has to be, how many pages are dirty, the oldest of a start
-// and of the first groups, and the numbers of the dirty pages.
+// What one pass over the frames tells: whether every entry is as it has to be, how many pages are dirty, and the oldest of a start
+// and of the first groups.
 pub struct Survey {
     pub legal: bool,
     pub count: usize,
     pub low: u64,
-    pub list: [u16; 32],
 }
 
 // Whether a frame is free, or below F with a page below P and a first group below next.
@@ -38,13 +37,20 @@ fn lower(a: u64, b: u64) -> u64
     a
 }
 
-// One pass over the frames; four free ones are passed over at once.
-pub fn survey_of(dirty: [Dirty; 32], pages: usize, frames: usize, next: u64, own: u64) -> Survey
+// One pass over the frames; four free ones are passed over at once. The numbers of the dirty pages go to a list that the caller lends:
+// one handed back would be copied right after it was written, number by number, and the processor waits at such a copy.
+pub fn survey_of(
+    dirty: [Dirty; 32],
+    pages: usize,
+    frames: usize,
+    next: u64,
+    own: u64,
+    list: &mut [u16],
+) -> Survey
+    requires { ⌜ length (now list) ≡ 32 ⌝ }
     ensures { λ r. ⌜ (r .legal ≡ entriesLegal pages frames next 0 dirty) × (r .count ≡ length (firstGroups dirty)) × (r .count ≤ 32)
-        × (r .low ≡ smallest own (firstGroups dirty)) × (r .low ≤ own)
-        × (take (r .count) (r .list) ≡ dirtyNumbers dirty) × (length (r .list) ≡ 32) ⌝ }
+        × (r .low ≡ smallest own (firstGroups dirty)) × (r .low ≤ own) × (take (r .count) (now (list .exit)) ≡ dirtyNumbers dirty) ⌝ }
 {
-    let mut list = [0u16; 32];
     let mut count = 0;
     let mut low = own;
     let mut legal = true;
@@ -70,12 +76,7 @@ pub fn survey_of(dirty: [Dirty; 32], pages: usize, frames: usize, next: u64, own
         }
         i += 4;
     }
-    Survey {
-        legal,
-        count,
-        low,
-        list,
-    }
+    Survey { legal, count, low }
 }
 
 // Whether a cleaning names one of these pages.
@@ -90,14 +91,11 @@ fn named(cleaning: Cleaning, pages: &[u16]) -> bool
     }
 }
 
-// Whether the dirty pages are as they have to be, and a cleaning names one of them.
-pub fn pages_sound(cleaning: Cleaning, survey: Survey) -> bool
-    requires { ⌜ (survey .count ≤ 32) × (length (survey .list) ≡ 32) ⌝ }
-    ensures { λ r. ⌜ r ≡ survey .legal && distinct (take (survey .count) (survey .list)) && names cleaning (take (survey .count) (survey .list)) ⌝ }
+// Whether entries that are legal or not are as they have to be, their pages distinct, and a cleaning names one of them.
+pub fn pages_sound(cleaning: Cleaning, legal: bool, pages: &[u16]) -> bool
+    ensures { λ r. ⌜ r ≡ legal && distinct (now (pages .entry)) && names cleaning (now (pages .entry)) ⌝ }
 {
-    let count = survey.count;
-    let list = survey.list;
-    let apart = numbers::all_distinct(&list[..count]);
-    let named = named(cleaning, &list[..count]);
-    survey.legal & apart & named
+    let apart = numbers::all_distinct(pages);
+    let named = named(cleaning, pages);
+    legal & apart & named
 }

@@ -6,14 +6,9 @@ pub mod sums;
 pub mod wide;
 
 ghost use mathlib.Core.Path.{_≡_};
-ghost use mathlib.Core.Bool.{true, false};
-ghost use Rattle.promises.specs.Sound.{sound};
+ghost use mathlib.Core.Bool.{false};
 ghost use Rattle.soundness.specs.Tests.{inRange};
-ghost use Rattle.soundness.specs.Summed.{Summed, Small};
-ghost use Rattle.soundness.specs.Parts.{figuresOf, stateOf, Judges};
-use promises::Cleaning;
-use promises::Dirty;
-use promises::Staged;
+ghost use Rattle.soundness.specs.Verdicts.{Judges};
 use promises::State;
 use sums::Sums;
 
@@ -59,7 +54,7 @@ fn unsound() -> Verdict
 
 // Whether a state is sound, and the sums over it where it is.
 pub fn checked(state: State) -> Verdict
-    ensures { λ r. ⌜ (r .sound ≡ sound state) × (sound state ≡ true → Summed state (r .sums) × Small state (r .sums)) ⌝ }
+    ensures { λ r. ⌜ Judges state r ⌝ }
 {
     if !in_range(state) {
         return unsound();
@@ -70,12 +65,14 @@ pub fn checked(state: State) -> Verdict
         return unsound();
     }
     let dirty = state.dirty;
+    let mut list = [0u16; 32];
     let survey = dirty::survey_of(
         dirty,
         state.pages,
         state.frames,
         state.next,
         state.next - state.stored as u64,
+        &mut list[..],
     );
     let queued = sizes.updates;
     let sums = Sums {
@@ -88,7 +85,8 @@ pub fn checked(state: State) -> Verdict
         return unsound();
     }
     let cleaning = state.cleaning;
-    let pages = dirty::pages_sound(cleaning, survey);
+    let found = survey.count;
+    let pages = dirty::pages_sound(cleaning, survey.legal, &list[..found]);
     let count = queued + state.described;
     if count == 0 {
         return Verdict { sound: pages, sums };
@@ -99,65 +97,4 @@ pub fn checked(state: State) -> Verdict
         sound: pages & waiting,
         sums,
     }
-}
-
-// A state's single numbers: all of it but its three arrays.
-pub struct Figures {
-    pub pages: usize,
-    pub slots: usize,
-    pub frames: usize,
-    pub next: u64,
-    pub ticket: u64,
-    pub queued: usize,
-    pub stored: usize,
-    pub reserved: usize,
-    pub described: usize,
-    pub cleaning: Cleaning,
-}
-
-// The single numbers of a state.
-pub fn figures_of(state: State) -> Figures
-    ensures { λ r. ⌜ r ≡ figuresOf state ⌝ }
-{
-    let cleaning = state.cleaning;
-    Figures {
-        pages: state.pages,
-        slots: state.slots,
-        frames: state.frames,
-        next: state.next,
-        ticket: state.ticket,
-        queued: state.queued,
-        stored: state.stored,
-        reserved: state.reserved,
-        described: state.described,
-        cleaning,
-    }
-}
-
-// Whether the state with these parts is sound, and the sums over it where it is. A caller that takes its state apart for this call and
-// hands it back as one does not copy it whole.
-pub fn judged(
-    figures: Figures,
-    dirty: [Dirty; 32],
-    staged: [Staged; 32],
-    groups: [u8; 32],
-) -> Verdict
-    ensures { λ r. ⌜ Judges (stateOf figures dirty staged groups) r ⌝ }
-{
-    let cleaning = figures.cleaning;
-    checked(State {
-        pages: figures.pages,
-        slots: figures.slots,
-        frames: figures.frames,
-        next: figures.next,
-        ticket: figures.ticket,
-        dirty,
-        staged,
-        groups,
-        queued: figures.queued,
-        stored: figures.stored,
-        reserved: figures.reserved,
-        described: figures.described,
-        cleaning,
-    })
 }

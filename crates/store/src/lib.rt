@@ -1,7 +1,7 @@
 // The page store: the nine calls of document 01, each with its one promise and no `requires`. A desk program lends log, home, frames and
 // staging, and keeps the state between calls. Each call judges the state, decides its refusal and changes nothing where it refuses; what
-// it decides with and what it stores stands in the crates below. A call takes its state apart and writes it anew once, at its end: a
-// state of 880 bytes that went through the functions below would be copied by each.
+// it decides with and what it stores stands in the crates below. A call changes a copy of its state and hands that back: a state of 880
+// bytes that came back from the functions below would be copied by each.
 use block::Block;
 use promises::Answer;
 use promises::EndOutcome;
@@ -51,36 +51,20 @@ pub fn open(log: &[u8], home: &[u8], frames: &mut [u8], staging: &[u8]) -> OpenO
 pub fn begin(state: State, u: usize) -> Outcome
     ensures { λ r. ⌜ Begins state u r ⌝ }
 {
-    let dirty = state.dirty;
-    let staged = state.staged;
-    let groups = state.groups;
-    let figures = soundness::figures_of(state);
-    let verdict = soundness::judged(figures, dirty, staged, groups);
-    let number = deciding::begin_refusal(verdict, state, u);
+    let mut after = state;
+    let verdict = soundness::checked(after);
+    let number = deciding::begin_refusal(verdict, after, u);
     if number != 0 {
         let refusal = deciding::refusal_of(number);
         return Outcome {
-            state,
+            state: after,
             answer: Answer::Refused(refusal),
         };
     }
-    let cleaning = state.cleaning;
+    after.reserved = u;
+    after.described = 0;
     Outcome {
-        state: State {
-            pages: state.pages,
-            slots: state.slots,
-            frames: state.frames,
-            next: state.next,
-            ticket: state.ticket,
-            dirty,
-            staged,
-            groups,
-            queued: state.queued,
-            stored: state.stored,
-            reserved: u,
-            described: 0,
-            cleaning,
-        },
+        state: after,
         answer: Answer::Done,
     }
 }
@@ -95,17 +79,14 @@ pub fn describe(
 ) -> Outcome
     ensures { λ r. ⌜ Describes state (updateOf page offset (now (bytes .entry))) (now (staging .entry)) r (now (staging .exit)) ⌝ }
 {
-    let dirty = state.dirty;
-    let waiting = state.staged;
-    let groups = state.groups;
-    let figures = soundness::figures_of(state);
-    let verdict = soundness::judged(figures, dirty, waiting, groups);
+    let mut after = state;
+    let verdict = soundness::checked(after);
     let number = deciding::describe_refusal(
         verdict.sound,
-        state.frames,
-        state.reserved,
-        state.pages,
-        state.described,
+        after.frames,
+        after.reserved,
+        after.pages,
+        after.described,
         staging.len(),
         page,
         offset,
@@ -114,13 +95,14 @@ pub fn describe(
     if number != 0 {
         let refusal = deciding::refusal_of(number);
         return Outcome {
-            state,
+            state: after,
             answer: Answer::Refused(refusal),
         };
     }
     let sums = verdict.sums;
-    let count = sums.queued + state.described;
-    let area = finding::free_area(waiting, count, state.frames);
+    let count = sums.queued + after.described;
+    let waiting = after.staged;
+    let area = finding::free_area(waiting, count, after.frames);
     let start = soundness::wide::byte(area) * Block::NEW_BYTES;
     area::copy_part(staging, start, bytes, 0, bytes.len());
     let mut staged = waiting;
@@ -130,23 +112,11 @@ pub fn describe(
         length: bytes.len() as u16,
         area,
     };
-    let cleaning = state.cleaning;
+    let described = after.described + 1;
+    after.staged = staged;
+    after.described = described;
     Outcome {
-        state: State {
-            pages: state.pages,
-            slots: state.slots,
-            frames: state.frames,
-            next: state.next,
-            ticket: state.ticket,
-            dirty,
-            staged,
-            groups,
-            queued: state.queued,
-            stored: state.stored,
-            reserved: state.reserved,
-            described: state.described + 1,
-            cleaning,
-        },
+        state: after,
         answer: Answer::Done,
     }
 }
@@ -155,40 +125,26 @@ pub fn describe(
 pub fn end(state: State) -> EndOutcome
     ensures { λ r. ⌜ Ends state r ⌝ }
 {
-    let dirty = state.dirty;
-    let staged = state.staged;
-    let sizes = state.groups;
-    let figures = soundness::figures_of(state);
-    let verdict = soundness::judged(figures, dirty, staged, sizes);
-    let number = deciding::end_refusal(verdict.sound, state);
+    let mut after = state;
+    let verdict = soundness::checked(after);
+    let number = deciding::end_refusal(verdict.sound, after);
     if number != 0 {
         let refusal = deciding::refusal_of(number);
         return EndOutcome {
-            state,
+            state: after,
             answer: Ended::Refused(refusal),
         };
     }
-    let queued = state.queued;
-    let ticket = state.ticket + queued as u64 + 1;
-    let mut groups = sizes;
-    groups[queued] = state.described as u8;
-    let cleaning = state.cleaning;
+    let queued = after.queued;
+    let ticket = after.ticket + queued as u64 + 1;
+    let mut groups = after.groups;
+    groups[queued] = after.described as u8;
+    after.groups = groups;
+    after.queued = queued + 1;
+    after.reserved = 0;
+    after.described = 0;
     EndOutcome {
-        state: State {
-            pages: state.pages,
-            slots: state.slots,
-            frames: state.frames,
-            next: state.next,
-            ticket: state.ticket,
-            dirty,
-            staged,
-            groups,
-            queued: queued + 1,
-            stored: state.stored,
-            reserved: 0,
-            described: 0,
-            cleaning,
-        },
+        state: after,
         answer: Ended::Ticket(ticket),
     }
 }
@@ -203,15 +159,12 @@ pub fn log_step(
 ) -> LogOutcome
     ensures { λ r. ⌜ LogSteps state (now (log .entry)) (now (home .entry)) (now (frames .entry)) (now (staging .entry)) r (now (log .exit)) (now (frames .exit)) ⌝ }
 {
-    let before = state.dirty;
-    let waiting = state.staged;
-    let sizes = state.groups;
-    let figures = soundness::figures_of(state);
-    let verdict = soundness::judged(figures, before, waiting, sizes);
+    let mut after = state;
+    let verdict = soundness::checked(after);
     let sums = verdict.sums;
     let number = logging::log_refusal(
         verdict.sound,
-        state,
+        after,
         log.len(),
         home.len(),
         frames.len(),
@@ -220,57 +173,46 @@ pub fn log_step(
     if number != 0 {
         let refusal = logging::refusal_of(number);
         return LogOutcome {
-            state,
+            state: after,
             answer: Logged::Refused(refusal),
         };
     }
-    let keep_from = state.next - sums.held as u64;
-    let next = state.next + 1;
-    let size = logging::group_size(state);
-    if state.stored < size {
-        logging::store_update(state, log, staging, keep_from);
-        let stored = state.stored + 1;
-        let cleaning = state.cleaning;
+    let keep_from = after.next - sums.held as u64;
+    let next = after.next + 1;
+    let size = logging::group_size(after);
+    if after.stored < size {
+        logging::store_update(after, log, staging, keep_from);
+        let stored = after.stored + 1;
+        after.next = next;
+        after.stored = stored;
         return LogOutcome {
-            state: State {
-                pages: state.pages,
-                slots: state.slots,
-                frames: state.frames,
-                next,
-                ticket: state.ticket,
-                dirty: before,
-                staged: waiting,
-                groups: sizes,
-                queued: state.queued,
-                stored,
-                reserved: state.reserved,
-                described: state.described,
-                cleaning,
-            },
+            state: after,
             answer: Logged::Stored,
         };
     }
-    let dirty = logging::store_commit(state, log, home, frames, staging, keep_from);
+    let dirty = logging::store_commit(after, log, home, frames, staging, keep_from);
+    let waiting = after.staged;
+    let sizes = after.groups;
     let staged = queue::staged_shifted(waiting, size);
     let groups = queue::groups_shifted(sizes);
-    let cleaning = queue::cleaning_left(state, size);
+    let cleaning = queue::cleaning_left(after, size);
     LogOutcome {
         state: State {
-            pages: state.pages,
-            slots: state.slots,
-            frames: state.frames,
+            pages: after.pages,
+            slots: after.slots,
+            frames: after.frames,
             next,
-            ticket: state.ticket + 1,
+            ticket: after.ticket + 1,
             dirty,
             staged,
             groups,
-            queued: state.queued - 1,
+            queued: after.queued - 1,
             stored: 0,
-            reserved: state.reserved,
-            described: state.described,
+            reserved: after.reserved,
+            described: after.described,
             cleaning,
         },
-        answer: Logged::Settled(state.ticket + 1),
+        answer: Logged::Settled(after.ticket + 1),
     }
 }
 
@@ -278,11 +220,7 @@ pub fn log_step(
 pub fn clean_step(state: State, log: &mut [u8], home: &mut [u8], frames: &[u8]) -> Outcome
     ensures { λ r. ⌜ CleanSteps state (now (log .entry)) (now (home .entry)) (now (frames .entry)) r (now (log .exit)) (now (home .exit)) ⌝ }
 {
-    let before = state.dirty;
-    let waiting = state.staged;
-    let sizes = state.groups;
-    let figures = soundness::figures_of(state);
-    let verdict = soundness::judged(figures, before, waiting, sizes);
+    let verdict = soundness::checked(state);
     let sums = verdict.sums;
     let number = cleaning::clean_refusal(
         verdict.sound,
@@ -297,7 +235,9 @@ pub fn clean_step(state: State, log: &mut [u8], home: &mut [u8], frames: &[u8]) 
     let entry = change.entry;
     let cleaning = change.cleaning;
     let answer = cleaning::answer_of(number);
-    let mut dirty = before;
+    let staged = state.staged;
+    let groups = state.groups;
+    let mut dirty = state.dirty;
     dirty[frame] = entry;
     Outcome {
         state: State {
@@ -307,8 +247,8 @@ pub fn clean_step(state: State, log: &mut [u8], home: &mut [u8], frames: &[u8]) 
             next: change.next,
             ticket: state.ticket,
             dirty,
-            staged: waiting,
-            groups: sizes,
+            staged,
+            groups,
             queued: state.queued,
             stored: state.stored,
             reserved: state.reserved,
@@ -329,11 +269,7 @@ pub fn read<'a>(
 ) -> &'a [u8]
     ensures { λ r. ⌜ Reads state (home .entry) (frames .entry) page (now (refusal .exit)) r ⌝ }
 {
-    let dirty = state.dirty;
-    let staged = state.staged;
-    let groups = state.groups;
-    let figures = soundness::figures_of(state);
-    let verdict = soundness::judged(figures, dirty, staged, groups);
+    let verdict = soundness::checked(state);
     let number = deciding::read_refusal(verdict.sound, state, home.len(), frames.len(), page);
     *refusal = number;
     if number != 0 {
@@ -352,11 +288,7 @@ pub fn read<'a>(
 pub fn settled(state: State, ticket: u64) -> Standing
     ensures { λ r. ⌜ Settles state ticket r ⌝ }
 {
-    let dirty = state.dirty;
-    let staged = state.staged;
-    let groups = state.groups;
-    let figures = soundness::figures_of(state);
-    let verdict = soundness::judged(figures, dirty, staged, groups);
+    let verdict = soundness::checked(state);
     let number = deciding::settled_refusal(verdict.sound, state, ticket);
     if number != 0 {
         let refusal = deciding::refusal_of(number);

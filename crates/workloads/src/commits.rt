@@ -66,6 +66,18 @@ fn drawn(a: u64, b: u64, c: u64, d: u64) -> Places {
     }
 }
 
+// Begin of two updates.
+fn begun(progress: Progress) -> Progress {
+    let before = progress.state;
+    let outcome = store::begin(before, 2);
+    let answer = outcome.answer;
+    let state = outcome.state;
+    Progress {
+        state,
+        digest: calling::answered(progress.digest, answer),
+    }
+}
+
 // Both updates described, the transaction ended, and its three blocks stored.
 fn committed(
     progress: Progress,
@@ -76,61 +88,53 @@ fn committed(
     i: u64,
     places: Places,
 ) -> Progress {
-    let begun = progress.state;
-    let first = store::describe(
-        begun,
-        staging,
-        places.first_page,
-        places.first_offset,
-        &new_bytes(i, 1),
-    );
-    let first_answer = first.answer;
-    let first_state = first.state;
-    let second = store::describe(
-        first_state,
-        staging,
-        places.second_page,
-        places.second_offset,
-        &new_bytes(i, 2),
-    );
-    let second_answer = second.answer;
-    let second_state = second.state;
-    let ended = store::end(second_state);
+    let mut state = progress.state;
+    let mut digest = progress.digest;
+    let mut page = places.first_page;
+    let mut offset = places.first_offset;
+    let mut which: u8 = 1;
+    while which < 3 {
+        let outcome = store::describe(state, staging, page, offset, &new_bytes(i, which));
+        let answer = outcome.answer;
+        state = outcome.state;
+        digest = calling::answered(digest, answer);
+        page = places.second_page;
+        offset = places.second_offset;
+        which += 1;
+    }
+    let ended = store::end(state);
     let ticket = ended.answer;
-    let ended_state = ended.state;
-    let third = store::log_step(ended_state, log, home, frames, staging);
-    let third_answer = third.answer;
-    let third_state = third.state;
-    let fourth = store::log_step(third_state, log, home, frames, staging);
-    let fourth_answer = fourth.answer;
-    let fourth_state = fourth.state;
-    let fifth = store::log_step(fourth_state, log, home, frames, staging);
-    let fifth_answer = fifth.answer;
-    let state = fifth.state;
-    let mut digest = calling::answered(progress.digest, first_answer);
-    digest = calling::answered(digest, second_answer);
+    state = ended.state;
     digest = calling::ended(digest, ticket);
-    digest = calling::logged(digest, third_answer);
-    digest = calling::logged(digest, fourth_answer);
-    digest = calling::logged(digest, fifth_answer);
+    let mut blocks: u64 = 3;
+    while 0 < blocks {
+        let outcome = store::log_step(state, log, home, frames, staging);
+        let answer = outcome.answer;
+        state = outcome.state;
+        digest = calling::logged(digest, answer);
+        blocks -= 1;
+    }
     Progress { state, digest }
 }
 
-// Three Clean steps: a page is cleaned.
-fn cleaned(progress: Progress, log: &mut [u8], home: &mut [u8], frames: &[u8]) -> Progress {
-    let dirty = progress.state;
-    let first = store::clean_step(dirty, log, home, frames);
-    let first_answer = first.answer;
-    let first_state = first.state;
-    let second = store::clean_step(first_state, log, home, frames);
-    let second_answer = second.answer;
-    let second_state = second.state;
-    let third = store::clean_step(second_state, log, home, frames);
-    let third_answer = third.answer;
-    let state = third.state;
-    let mut digest = calling::answered(progress.digest, first_answer);
-    digest = calling::answered(digest, second_answer);
-    digest = calling::answered(digest, third_answer);
+// So many Clean steps.
+fn cleaned(
+    progress: Progress,
+    log: &mut [u8],
+    home: &mut [u8],
+    frames: &[u8],
+    steps: u64,
+) -> Progress {
+    let mut state = progress.state;
+    let mut digest = progress.digest;
+    let mut left = steps;
+    while 0 < left {
+        let outcome = store::clean_step(state, log, home, frames);
+        let answer = outcome.answer;
+        state = outcome.state;
+        digest = calling::answered(digest, answer);
+        left -= 1;
+    }
     Progress { state, digest }
 }
 
@@ -145,7 +149,7 @@ fn opened(log: &[u8], home: &[u8], frames: &mut [u8], staging: &[u8]) -> Progres
     }
 }
 
-// Transactions of two updates, both pages cleaned at once: straight on, with a name for each call's outcome.
+// Transactions of two updates, both pages cleaned at once.
 pub fn commits(
     log: &mut [u8],
     home: &mut [u8],
@@ -154,9 +158,7 @@ pub fn commits(
     count: u64,
 ) -> u64 {
     let formatted = store::format(log);
-    let progress = opened(log, home, frames, staging);
-    let mut state = progress.state;
-    let mut digest = progress.digest;
+    let mut progress = opened(log, home, frames, staging);
     let mut x: u64 = 1;
     let mut i: u64 = 0;
     while i < count {
@@ -164,74 +166,12 @@ pub fn commits(
         let b = numbers::after(a);
         let c = numbers::after(b);
         x = numbers::after(c);
-        let places = drawn(a, b, c, x);
-        let begun = store::begin(state, 2);
-        let begun_answer = begun.answer;
-        let begun_state = begun.state;
-        let first = store::describe(
-            begun_state,
-            staging,
-            places.first_page,
-            places.first_offset,
-            &new_bytes(i, 1),
-        );
-        let first_answer = first.answer;
-        let first_state = first.state;
-        let second = store::describe(
-            first_state,
-            staging,
-            places.second_page,
-            places.second_offset,
-            &new_bytes(i, 2),
-        );
-        let second_answer = second.answer;
-        let second_state = second.state;
-        let ended = store::end(second_state);
-        let ended_answer = ended.answer;
-        let ended_state = ended.state;
-        let update = store::log_step(ended_state, log, home, frames, staging);
-        let update_answer = update.answer;
-        let update_state = update.state;
-        let update_2 = store::log_step(update_state, log, home, frames, staging);
-        let update_2_answer = update_2.answer;
-        let update_2_state = update_2.state;
-        let commit = store::log_step(update_2_state, log, home, frames, staging);
-        let commit_answer = commit.answer;
-        let commit_state = commit.state;
-        let half = store::clean_step(commit_state, log, home, frames);
-        let half_answer = half.answer;
-        let half_state = half.state;
-        let whole = store::clean_step(half_state, log, home, frames);
-        let whole_answer = whole.answer;
-        let whole_state = whole.state;
-        let clean = store::clean_step(whole_state, log, home, frames);
-        let clean_answer = clean.answer;
-        let clean_state = clean.state;
-        let half_2 = store::clean_step(clean_state, log, home, frames);
-        let half_2_answer = half_2.answer;
-        let half_2_state = half_2.state;
-        let whole_2 = store::clean_step(half_2_state, log, home, frames);
-        let whole_2_answer = whole_2.answer;
-        let whole_2_state = whole_2.state;
-        let clean_2 = store::clean_step(whole_2_state, log, home, frames);
-        let clean_2_answer = clean_2.answer;
-        state = clean_2.state;
-        digest = calling::answered(digest, begun_answer);
-        digest = calling::answered(digest, first_answer);
-        digest = calling::answered(digest, second_answer);
-        digest = calling::ended(digest, ended_answer);
-        digest = calling::logged(digest, update_answer);
-        digest = calling::logged(digest, update_2_answer);
-        digest = calling::logged(digest, commit_answer);
-        digest = calling::answered(digest, half_answer);
-        digest = calling::answered(digest, whole_answer);
-        digest = calling::answered(digest, clean_answer);
-        digest = calling::answered(digest, half_2_answer);
-        digest = calling::answered(digest, whole_2_answer);
-        digest = calling::answered(digest, clean_2_answer);
+        let first = begun(progress);
+        let second = committed(first, log, home, frames, staging, i, drawn(a, b, c, x));
+        progress = cleaned(second, log, home, frames, 6);
         i += 1;
     }
-    digest
+    progress.digest
 }
 
 // Begin of two updates: a page is cleaned while it is refused as full.
@@ -243,7 +183,7 @@ fn begun_late(progress: Progress, log: &mut [u8], home: &mut [u8], frames: &[u8]
     let mut digest = calling::answered(progress.digest, answer);
     let mut turns: u64 = 32;
     while (0 < turns) & calling::is_full(answer) {
-        let after = cleaned(Progress { state, digest }, log, home, frames);
+        let after = cleaned(Progress { state, digest }, log, home, frames, 3);
         state = after.state;
         outcome = store::begin(state, 2);
         answer = outcome.answer;

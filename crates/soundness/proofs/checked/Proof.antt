@@ -4,7 +4,7 @@ use mathlib.Core.Path.{_≡_, sym, _∙_}
 use mathlib.Core.Bool.{Bool, true, false, _&&_, and-true}
 use Prim.Native.Nat.{_+_, _-_}
 use lib.Dec.{leb}
-use lib.ListN.{length}
+use lib.ListN.{length, length-take}
 use borrow.Author.Tests.{not-true, not-false}
 use Rattle.block.proofs.Tests.{never-both}
 use Rattle.promises.specs.declared.State.{State}
@@ -44,24 +44,24 @@ addable-at c = addable ((c .before .before .before .before .before .before .befo
 
 abbrev sums-at : tie.After-struct-known8 → Sums
 sums-at c =
-    let s = (c .before .before .before .before .before .before .before .before .before .before .before .before .before .before .before) .args .state in
-    let survey = (c .before .before .before .before) .survey-of .result in
-    let queued = (c .before .before .before .before .before .before .before .before .before .before .before) .sizes-of .result .updates in
+    let s = (c .before .before .before .before .before .before .before .before .before .before .before .before .before .before .before .before .before) .args .state in
+    let survey = (c .before .before .before .before .before) .survey-of .result in
+    let queued = (c .before .before .before .before .before .before .before .before .before .before .before .before .before) .sizes-of .result .updates in
     record { held = s .next - survey .low; waiting = queued + s .queued - s .stored; dirty = survey .count; queued = queued }
 
-summed-at : (c : tie.After-struct-known8) → Summed ((c .before .before .before .before .before .before .before .before .before .before .before .before .before .before .before) .args .state) (sums-at c)
+summed-at : (c : tie.After-struct-known8) → Summed ((c .before .before .before .before .before .before .before .before .before .before .before .before .before .before .before .before .before) .args .state) (sums-at c)
 summed-at c =
-    let survey = (c .before .before .before .before) .survey-of .ensures in
-    let sizes = (c .before .before .before .before .before .before .before .before .before .before .before) .sizes-of .ensures in
-    summed ((c .before .before .before .before .before .before .before .before .before .before .before .before .before .before .before) .args .state) _ _ _ (groups-long (c .before .before .before .before .before .before .before .before .before .before .before .before .before .before .before)) (addable-at (c .before .before .before .before .before .before .before)) (survey .3) (survey .1, survey .2) (sizes .2, sizes .3)
+    let survey = (c .before .before .before .before .before) .survey-of .ensures in
+    let sizes = (c .before .before .before .before .before .before .before .before .before .before .before .before .before) .sizes-of .ensures in
+    summed ((c .before .before .before .before .before .before .before .before .before .before .before .before .before .before .before .before .before) .args .state) _ _ _ (groups-long (c .before .before .before .before .before .before .before .before .before .before .before .before .before .before .before .before .before)) (addable-at (c .before .before .before .before .before .before .before .before .before)) (survey .3) (survey .1, survey .2) (sizes .2, sizes .3)
 
-counts-at : (c : tie.Else3) → countsLegal ((c .before .before .before .before .before .before .before .before .before .before .before .before .before .before .before .before .before) .args .state) ≡ true
-counts-at c = sym (counts-fit ((c .before .before .before .before .before .before .before .before .before .before .before .before .before .before .before .before .before) .args .state) (range-at (c .before .before .before .before .before .before .before .before .before .before .before .before .before .before .before)) (groups-at (c .before .before .before .before .before .before .before .before .before))) ∙ (sym ((c .before) .fit .ensures) ∙ not-false _ (c .if3 .left))
+counts-at : (c : tie.Else3) → countsLegal ((c .before .before .before .before .before .before .before .before .before .before .before .before .before .before .before .before .before .before .before) .args .state) ≡ true
+counts-at c = sym (counts-fit ((c .before .before .before .before .before .before .before .before .before .before .before .before .before .before .before .before .before .before .before) .args .state) (range-at (c .before .before .before .before .before .before .before .before .before .before .before .before .before .before .before .before .before)) (groups-at (c .before .before .before .before .before .before .before .before .before .before .before))) ∙ (sym ((c .before) .fit .ensures) ∙ not-false _ (c .if3 .left))
 
-pages-at : (c : tie.After-pages-sound) → c .pages-sound .result ≡ pagesLegal ((c .before .before .before .before .before .before .before .before .before .before .before .before .before .before .before .before .before .before) .args .state)
+pages-at : (c : tie.After-pages-sound) → c .pages-sound .result ≡ pagesLegal ((c .before .before .before .before .before .before .before .before .before .before .before .before .before .before .before .before .before .before .before .before .before) .args .state)
 pages-at c =
-    let survey = (c .before .before .before .before .before .before .before) .survey-of in
-    c .pages-sound .ensures ∙ surveyed ((c .before .before .before .before .before .before .before .before .before .before .before .before .before .before .before .before .before .before) .args .state) _ _ (survey .ensures .0) (survey .ensures .5)
+    let survey = (c .before .before .before .before .before .before .before .before .before) .survey-of in
+    c .pages-sound .ensures ∙ surveyed ((c .before .before .before .before .before .before .before .before .before .before .before .before .before .before .before .before .before .before .before .before .before) .args .state) _ _ (survey .ensures .0) (survey .ensures .5)
 
 -- a refused state has no sums
 none : (s : State) (C : Type 0) → false ≡ sound s → sound s ≡ true → C
@@ -95,54 +95,63 @@ returns-2 c =
 sub-survey-of : tie.Need-sub-survey-of
 sub-survey-of c = let r = range-of ((c .before .before .before .before .before .before .before .before .before .before) .args .state) (range-at (c .before .before .before .before .before .before .before .before)) in search needs
 
+slice-aggregate-survey-of : tie.Need-slice-aggregate-survey-of
+slice-aggregate-survey-of c = search needs
+
 survey-of-requires : tie.Need-survey-of-requires
 survey-of-requires c κs = search needs
 
-sub-t16 : tie.Need-sub-t16
-sub-t16 c = search needs
+sub-t18 : tie.Need-sub-t18
+sub-t18 c = search needs
 
-add-t19 : tie.Need-add-t19
-add-t19 c = let r = range-of ((c .before .before .before .before .before .before .before .before .before .before .before .before .before .before) .args .state) (range-at (c .before .before .before .before .before .before .before .before .before .before .before .before)) in search needs
+add-t23 : tie.Need-add-t23
+add-t23 c = let r = range-of ((c .before .before .before .before .before .before .before .before .before .before .before .before .before .before .before .before) .args .state) (range-at (c .before .before .before .before .before .before .before .before .before .before .before .before .before .before)) in search needs
 
-sub-t20 : tie.Need-sub-t20
-sub-t20 c = omega (arith, stored-most ((c .before .before .before .before .before .before .before .before .before .before .before .before .before .before .before) .args .state) (groups-long (c .before .before .before .before .before .before .before .before .before .before .before .before .before .before .before)) (addable-at (c .before .before .before .before .before .before .before)), (c .before .before .before .before .before .before .before .before .before .before .before) .sizes-of .ensures .2)
+sub-t24 : tie.Need-sub-t24
+sub-t24 c = omega (arith, stored-most ((c .before .before .before .before .before .before .before .before .before .before .before .before .before .before .before .before .before) .args .state) (groups-long (c .before .before .before .before .before .before .before .before .before .before .before .before .before .before .before .before .before)) (addable-at (c .before .before .before .before .before .before .before .before .before)), (c .before .before .before .before .before .before .before .before .before .before .before .before .before) .sizes-of .ensures .2)
 
 fit-requires : tie.Need-fit-requires
-fit-requires c κs = (addable-at (c .before .before .before .before .before .before .before), summed-at c)
+fit-requires c κs = (addable-at (c .before .before .before .before .before .before .before .before .before), summed-at c)
 
 unsound-requires-3 : tie.Need-unsound-requires-3
 unsound-requires-3 c κs = search needs
 
 returns-3 : tie.Need-returns-3
 returns-3 c =
-    let s = (c .before .before .before .before .before .before .before .before .before .before .before .before .before .before .before .before .before .before) .args .state in
+    let s = (c .before .before .before .before .before .before .before .before .before .before .before .before .before .before .before .before .before .before .before .before) .args .state in
     let misfit : fitting s ≡ false = sym ((c .before .before) .fit .ensures) ∙ not-true _ ((c .before) .if3 .taken) in
-    let fails = unsound s (groups-long (c .before .before .before .before .before .before .before .before .before .before .before .before .before .before .before .before .before .before)) (staged-long (c .before .before .before .before .before .before .before .before .before .before .before .before .before .before .before .before .before .before)) (sym (counts-fit s (range-at (c .before .before .before .before .before .before .before .before .before .before .before .before .before .before .before .before)) (groups-at (c .before .before .before .before .before .before .before .before .before .before))) ∙ misfit) in
+    let fails = unsound s (groups-long (c .before .before .before .before .before .before .before .before .before .before .before .before .before .before .before .before .before .before .before .before)) (staged-long (c .before .before .before .before .before .before .before .before .before .before .before .before .before .before .before .before .before .before .before .before)) (sym (counts-fit s (range-at (c .before .before .before .before .before .before .before .before .before .before .before .before .before .before .before .before .before .before)) (groups-at (c .before .before .before .before .before .before .before .before .before .before .before .before))) ∙ misfit) in
     (c .unsound3 .ensures ∙ fails, none s _ fails)
 
+array-share-prefix-list : tie.Need-array-share-prefix-list
+array-share-prefix-list c = search needs
+
+slice-aggregate-pages-sound : tie.Need-slice-aggregate-pages-sound
+slice-aggregate-pages-sound c = omega (arith, length-take ((c .before .before .before .before .before .before .before .before) .survey-of .result .count) ((c .before .before .before .before .before .before .before .before) .survey-of .last .1 .1 .1 .1 .1 .0), (c .before .before .before .before .before .before .before .before) .survey-of .kept, (c .before .before .before .before .before .before .before .before) .survey-of .ensures .2)
+
 pages-sound-requires : tie.Need-pages-sound-requires
-pages-sound-requires c κs = ((c .before .before .before .before .before .before) .survey-of .ensures .2, (c .before .before .before .before .before .before) .survey-of .ensures .6)
+pages-sound-requires c κs = search needs
 
 add-count : tie.Need-add-count
-add-count c = omega (arith, (c .before .before .before .before .before .before .before .before .before .before .before .before .before .before .before) .sizes-of .ensures .3, counted ((c .before .before .before .before .before .before .before .before .before .before .before .before .before .before .before .before .before .before .before) .args .state) (counts-at (c .before .before)) .range)
+add-count c = omega (arith, (c .before .before .before .before .before .before .before .before .before .before .before .before .before .before .before .before .before .before) .sizes-of .ensures .3, counted ((c .before .before .before .before .before .before .before .before .before .before .before .before .before .before .before .before .before .before .before .before .before .before) .args .state) (counts-at (c .before .before .before)) .range)
 
 returns-4 : tie.Need-returns-4
 returns-4 c =
-    let s = (c .before .before .before .before .before .before .before .before .before .before .before .before .before .before .before .before .before .before .before .before) .args .state in
-    let sizes = (c .before .before .before .before .before .before .before .before .before .before .before .before .before .before .before .before) .sizes-of in
-    let same = decided s (groups-long (c .before .before .before .before .before .before .before .before .before .before .before .before .before .before .before .before .before .before .before .before)) (staged-long (c .before .before .before .before .before .before .before .before .before .before .before .before .before .before .before .before .before .before .before .before)) (counts-at (c .before .before .before)) (sizes .result .updates) _ true (sizes .ensures .2) (pages-at (c .before .before))
+    let s = (c .before .before .before .before .before .before .before .before .before .before .before .before .before .before .before .before .before .before .before .before .before .before .before) .args .state in
+    let sizes = (c .before .before .before .before .before .before .before .before .before .before .before .before .before .before .before .before .before .before .before) .sizes-of in
+    let same = decided s (groups-long (c .before .before .before .before .before .before .before .before .before .before .before .before .before .before .before .before .before .before .before .before .before .before .before)) (staged-long (c .before .before .before .before .before .before .before .before .before .before .before .before .before .before .before .before .before .before .before .before .before .before .before)) (counts-at (c .before .before .before .before)) (sizes .result .updates) _ true (sizes .ensures .2) (pages-at (c .before .before))
     (none-waiting (s .pages) (s .frames) (s .staged) (sizes .result .updates + s .described) (c .if4 .taken)) in
-    (sym (and-true _) ∙ same, λ t. (summed-at (c .before .before .before .before .before), sums-small s (sums-at (c .before .before .before .before .before)) t (summed-at (c .before .before .before .before .before))))
+    (sym (and-true _) ∙ same, λ t. (summed-at (c .before .before .before .before .before .before), sums-small s (sums-at (c .before .before .before .before .before .before)) t (summed-at (c .before .before .before .before .before .before))))
 
 staged-sound-requires : tie.Need-staged-sound-requires
-staged-sound-requires c κs = omega (arith, (c .before .before .before .before .before .before .before .before .before .before .before .before .before .before .before .before .before) .sizes-of .ensures .2, waiting-few ((c .before .before .before .before .before .before .before .before .before .before .before .before .before .before .before .before .before .before .before .before .before) .args .state) (counts-at (c .before .before .before .before)))
+staged-sound-requires c κs = omega (arith, (c .before .before .before .before .before .before .before .before .before .before .before .before .before .before .before .before .before .before .before .before) .sizes-of .ensures .2, waiting-few ((c .before .before .before .before .before .before .before .before .before .before .before .before .before .before .before .before .before .before .before .before .before .before .before .before) .args .state) (counts-at (c .before .before .before .before .before)))
 
 returns-5 : tie.Need-returns-5
 returns-5 c =
-    let s = (c .before .before .before .before .before .before .before .before .before .before .before .before .before .before .before .before .before .before .before .before .before .before) .args .state in
-    let sizes = (c .before .before .before .before .before .before .before .before .before .before .before .before .before .before .before .before .before .before) .sizes-of in
-    let same = decided s (groups-long (c .before .before .before .before .before .before .before .before .before .before .before .before .before .before .before .before .before .before .before .before .before .before)) (staged-long (c .before .before .before .before .before .before .before .before .before .before .before .before .before .before .before .before .before .before .before .before .before .before)) (counts-at (c .before .before .before .before .before)) (sizes .result .updates) _ _ (sizes .ensures .2) (pages-at (c .before .before .before .before)) (c .staged-sound .ensures) in
-    (same, λ t. (summed-at (c .before .before .before .before .before .before .before), sums-small s (sums-at (c .before .before .before .before .before .before .before)) t (summed-at (c .before .before .before .before .before .before .before))))
+    let s = (c .before .before .before .before .before .before .before .before .before .before .before .before .before .before .before .before .before .before .before .before .before .before .before .before .before) .args .state in
+    let sizes = (c .before .before .before .before .before .before .before .before .before .before .before .before .before .before .before .before .before .before .before .before .before) .sizes-of in
+    let same = decided s (groups-long (c .before .before .before .before .before .before .before .before .before .before .before .before .before .before .before .before .before .before .before .before .before .before .before .before .before)) (staged-long (c .before .before .before .before .before .before .before .before .before .before .before .before .before .before .before .before .before .before .before .before .before .before .before .before .before)) (counts-at (c .before .before .before .before .before .before)) (sizes .result .updates) _ _ (sizes .ensures .2) (pages-at (c .before .before .before .before)) (c .staged-sound .ensures) in
+    (same, λ t. (summed-at (c .before .before .before .before .before .before .before .before), sums-small s (sums-at (c .before .before .before .before .before .before .before .before)) t (summed-at (c .before .before .before .before .before .before .before .before))))
 
 pub checked-spec : {M : Type 1} → statement M
 checked-spec =
@@ -155,13 +164,16 @@ checked-spec =
     unsound-requires-2
     returns-2
     sub-survey-of
+    slice-aggregate-survey-of
     survey-of-requires
-    sub-t16
-    add-t19
-    sub-t20
+    sub-t18
+    add-t23
+    sub-t24
     fit-requires
     unsound-requires-3
     returns-3
+    array-share-prefix-list
+    slice-aggregate-pages-sound
     pages-sound-requires
     add-count
     returns-4

@@ -2,38 +2,33 @@
 -- Assumes nothing.
 use mathlib.Core.Path.{sym, _∙_}
 use Rattle.promises.proofs.Changes.{begin-met}
-use Rattle.soundness.proofs.Whole.{judged-whole}
 use Rattle.queueing.proofs.Refusals.{begin-refused}
 use borrow.Author.Needs.{needs}
 use Rattle.store.proofs.begin.Statement.{statement}
 use Rattle.store.proofs.begin.Tie as tie
 
-figures-of-requires : tie.Need-figures-of-requires
-figures-of-requires c κs = search needs
-
-judged-requires : tie.Need-judged-requires
-judged-requires c κs = search needs
+checked-requires : tie.Need-checked-requires
+checked-requires c κs = search needs
 
 begin-refusal-requires : tie.Need-begin-refusal-requires
-begin-refusal-requires c κs = judged-whole ((c .before .before .before .before .before) .args .state) _ _ ((c .before) .figures-of .ensures) (c .judged .ensures)
+begin-refusal-requires c κs = c .checked .ensures
 
 refusal-of-requires : tie.Need-refusal-of-requires
 refusal-of-requires c κs = search needs
 
 returns : tie.Need-returns
 returns c =
-    let args = (c .before .before .before .before .before .before .before .before) .args in
+    let args = (c .before .before .before .before) .args in
     begin-refused (c .refusal-of .result) ((c .before .before) .begin-refusal .result) (c .refusal-of .ensures) ((c .before) .if1 .taken) (args .state) (args .u) ((c .before .before) .begin-refusal .ensures .0)
 
 returns-2 : tie.Need-returns-2
-returns-2 c = begin-met ((c .before .before .before .before .before .before .before) .args .state) ((c .before .before .before .before .before .before .before) .args .u) (sym ((c .before) .begin-refusal .ensures .0) ∙ c .if1 .left)
+returns-2 c = begin-met ((c .before .before .before) .args .state) ((c .before .before .before) .args .u) (sym ((c .before) .begin-refusal .ensures .0) ∙ c .if1 .left)
 
 pub begin-spec : {M : Type 1} → statement M
 begin-spec =
     tie.close
     (tie.spec
-    figures-of-requires
-    judged-requires
+    checked-requires
     begin-refusal-requires
     refusal-of-requires
     returns

@@ -8,9 +8,7 @@ use Rattle.promises.specs.Contents.{total, groupsOf}
 use Rattle.promises.specs.Sound.{member, areasOf}
 use Rattle.promises.specs.Describe.{describeRefusal}
 use Rattle.promises.proofs.Soundness.{sound-of}
-use Rattle.soundness.specs.Parts.{Judges}
 use Rattle.soundness.proofs.Scans.{length-mapped}
-use Rattle.soundness.proofs.Whole.{judged-whole}
 use Rattle.queueing.specs.Queueing.{updateOf}
 use Rattle.queueing.proofs.Refusals.{Describable, describable, describe-number, describe-refused}
 use Rattle.queueing.proofs.Places.{describe-done}
@@ -25,50 +23,44 @@ groups-long c = search needs
 staged-long : (c : tie.Start) → length (c .args .state .staged) ≡ 32
 staged-long c = search (needs, length-mapped)
 
-judged-at : (c : tie.After-judged) → Judges (c .before .before .before .before .before .before .before .args .state) (c .judged .result)
-judged-at c = judged-whole (c .before .before .before .before .before .before .before .args .state) _ _ (c .before .figures-of .ensures) (c .judged .ensures)
-
 -- the number decided is the promise's
 number-at : (c : tie.After-describe-refusal)
-    → let args = c .before .before .before .before .before .before .before .before .args in c .describe-refusal .result ≡ describeRefusal (args .state) (length (now (args .staging))) (args .page) (args .offset) (length (now (args .bytes)))
+    → let args = (c .before .before .before .before) .args in c .describe-refusal .result ≡ describeRefusal (args .state) (length (now (args .staging))) (args .page) (args .offset) (length (now (args .bytes)))
 number-at c =
-    let args = c .before .before .before .before .before .before .before .before .args in
-    c .describe-refusal .ensures .0 ∙ describe-number (args .state) _ (length (now (args .staging))) (args .page) (args .offset) (length (now (args .bytes))) (judged-at (c .before) .0)
+    let args = (c .before .before .before .before) .args in
+    c .describe-refusal .ensures .0 ∙ describe-number (args .state) _ (length (now (args .staging))) (args .page) (args .offset) (length (now (args .bytes))) ((c .before) .checked .ensures .0)
 
 accepted-at : (c : tie.Else1)
-    → let args = c .before .before .before .before .before .before .before .before .before .args in describeRefusal (args .state) (length (now (args .staging))) (args .page) (args .offset) (length (now (args .bytes))) ≡ 0
+    → let args = (c .before .before .before .before .before) .args in describeRefusal (args .state) (length (now (args .staging))) (args .page) (args .offset) (length (now (args .bytes))) ≡ 0
 accepted-at c = sym (number-at (c .before)) ∙ c .if1 .left
 
 describable-at : (c : tie.Else1)
-    → let args = c .before .before .before .before .before .before .before .before .before .args in Describable (args .state) (length (now (args .staging))) (args .page) (args .offset) (length (now (args .bytes)))
-describable-at c = describable _ _ _ _ _ (groups-long (c .before .before .before .before .before .before .before .before .before)) (accepted-at c)
+    → let args = (c .before .before .before .before .before) .args in Describable (args .state) (length (now (args .staging))) (args .page) (args .offset) (length (now (args .bytes)))
+describable-at c = describable _ _ _ _ _ (groups-long (c .before .before .before .before .before)) (accepted-at c)
 
-queued-at : (c : tie.Else1) → c .before .before .judged .result .sums .queued ≡ total (groupsOf (c .before .before .before .before .before .before .before .before .before .args .state))
-queued-at c = judged-at (c .before .before) .1 (describable-at c .sounds) .0 .queued
+queued-at : (c : tie.Else1) → (c .before .before) .checked .result .sums .queued ≡ total (groupsOf ((c .before .before .before .before .before) .args .state))
+queued-at c = (c .before .before) .checked .ensures .1 (describable-at c .sounds) .0 .queued
 
-figures-of-requires : tie.Need-figures-of-requires
-figures-of-requires c κs = search needs
-
-judged-requires : tie.Need-judged-requires
-judged-requires c κs = search needs
+checked-requires : tie.Need-checked-requires
+checked-requires c κs = search needs
 
 describe-refusal-requires : tie.Need-describe-refusal-requires
-describe-refusal-requires c κs = λ t. sound-of ((c .before .before .before .before .before .before .before) .args .state) (sym (judged-at (c) .0) ∙ t) .frames .1
+describe-refusal-requires c κs = λ t. sound-of ((c .before .before .before) .args .state) (sym (c .checked .ensures .0) ∙ t) .frames .1
 
 refusal-of-requires : tie.Need-refusal-of-requires
 refusal-of-requires c κs = search needs
 
 returns : tie.Need-returns
 returns c =
-    let args = (c .before .before .before .before .before .before .before .before .before .before) .args in
+    let args = (c .before .before .before .before .before .before) .args in
     describe-refused (c .refusal-of .result) ((c .before .before) .describe-refusal .result) (c .refusal-of .ensures) ((c .before) .if1 .taken) (args .state)
-    (updateOf (args .page) (args .offset) (now (args .bytes))) (now (args .staging)) (number-at ((c .before .before)))
+    (updateOf (args .page) (args .offset) (now (args .bytes))) (now (args .staging)) (number-at (c .before .before))
 
 add-count : tie.Need-add-count
-add-count c = let k = describable-at ((c .before .before .before)) in omega (arith, queued-at ((c .before .before .before)))
+add-count c = let k = describable-at (c .before .before .before) in omega (arith, queued-at (c .before .before .before))
 
 free-area-requires : tie.Need-free-area-requires
-free-area-requires c κs = let k = describable-at ((c .before .before .before)) in omega (arith, queued-at ((c .before .before .before)))
+free-area-requires c κs = let k = describable-at (c .before .before .before .before) in omega (arith, queued-at (c .before .before .before .before))
 
 byte-requires : tie.Need-byte-requires
 byte-requires c κs = search needs
@@ -77,46 +69,45 @@ mul-start : tie.Need-mul-start
 mul-start c = search needs
 
 copy-part-requires : tie.Need-copy-part-requires
-copy-part-requires c κs = let k = describable-at ((c .before .before .before .before .before .before)) in omega (arith, (c .before) .byte .ensures, (c .before .before) .free-area .ensures .0)
+copy-part-requires c κs = let k = describable-at (c .before .before .before .before .before .before .before) in omega (arith, (c .before) .byte .ensures, (c .before .before) .free-area .ensures .0)
+
+cast-t24 : tie.Need-cast-t24
+cast-t24 c = let k = describable-at (c .before .before .before .before .before .before .before .before .before .before) in omega arith
+
+cast-t25 : tie.Need-cast-t25
+cast-t25 c = let k = describable-at (c .before .before .before .before .before .before .before .before .before .before) in omega arith
 
 cast-t26 : tie.Need-cast-t26
-cast-t26 c = let k = describable-at ((c .before .before .before .before .before .before .before .before .before)) in omega arith
-
-cast-t27 : tie.Need-cast-t27
-cast-t27 c = let k = describable-at ((c .before .before .before .before .before .before .before .before .before)) in omega arith
-
-cast-t28 : tie.Need-cast-t28
-cast-t28 c = let k = describable-at ((c .before .before .before .before .before .before .before .before .before)) in omega arith
+cast-t26 c = let k = describable-at (c .before .before .before .before .before .before .before .before .before .before) in omega arith
 
 mul-staged : tie.Need-mul-staged
-mul-staged c = let k = describable-at ((c .before .before .before .before .before .before .before .before .before)) in omega (arith, queued-at ((c .before .before .before .before .before .before .before .before .before)))
+mul-staged c = let k = describable-at (c .before .before .before .before .before .before .before .before .before .before) in omega (arith, queued-at (c .before .before .before .before .before .before .before .before .before .before))
 
 array-set-from-staged : tie.Need-array-set-from-staged
-array-set-from-staged c = let k = describable-at ((c .before .before .before .before .before .before .before .before .before)) in omega (arith, queued-at ((c .before .before .before .before .before .before .before .before .before)))
+array-set-from-staged c = let k = describable-at (c .before .before .before .before .before .before .before .before .before .before) in omega (arith, queued-at (c .before .before .before .before .before .before .before .before .before .before))
 
-add-t19 : tie.Need-add-t19
-add-t19 c = let k = describable-at ((c .before .before .before .before .before .before .before .before .before .before)) in omega arith
+add-described : tie.Need-add-described
+add-described c = let k = describable-at (c .before .before .before .before .before .before .before .before .before .before .before) in omega arith
 
 same-length : tie.Need-same-length
 same-length c = search needs
 
 returns-2 : tie.Need-returns-2
 returns-2 c =
-    let args = (c .before .before .before .before .before .before .before .before .before .before .before .before .before .before .before .before .before .before .before) .args in
+    let args = (c .before .before .before .before .before .before .before .before .before .before .before .before .before .before .before .before) .args in
     let free = (c .before .before .before .before .before .before) .free-area in
     let byte = (c .before .before .before .before .before) .byte in
-    let counted : (c .before .before .before .before .before .before .before .before .before .before .before .before) .judged .result .sums .queued + args .state .described ≡ total (groupsOf (args .state)) + args .state .described =
-    ap (λ (n : ℕ). n + args .state .described) (queued-at ((c .before .before .before .before .before .before .before .before .before .before))) in
+    let counted : (c .before .before .before .before .before .before .before .before .before .before .before .before .before) .checked .result .sums .queued + args .state .described ≡ total (groupsOf (args .state)) + args .state .described =
+    ap (λ (n : ℕ). n + args .state .described) (queued-at (c .before .before .before .before .before .before .before .before .before .before .before)) in
     let unheld = ap (λ (n : ℕ). member (free .result) (areasOf (take n (args .state .staged)))) (sym counted) ∙ free .ensures .1 in
     describe-done (args .state) (args .page) (args .offset) (free .result) (byte .result) _ (now (args .bytes)) (now (args .staging)) _
-    (staged-long ((c .before .before .before .before .before .before .before .before .before .before .before .before .before .before .before .before .before .before .before))) (accepted-at ((c .before .before .before .before .before .before .before .before .before .before))) (free .ensures .0) unheld counted (byte .ensures) ((c .before .before .before) .copy-part .ensures)
+    (staged-long (c .before .before .before .before .before .before .before .before .before .before .before .before .before .before .before .before)) (accepted-at (c .before .before .before .before .before .before .before .before .before .before .before)) (free .ensures .0) unheld counted (byte .ensures) ((c .before .before .before) .copy-part .ensures)
 
 pub describe-spec : {M : Type 1} → statement M
 describe-spec =
     tie.close
     (tie.spec
-    figures-of-requires
-    judged-requires
+    checked-requires
     describe-refusal-requires
     refusal-of-requires
     returns
@@ -125,11 +116,11 @@ describe-spec =
     byte-requires
     mul-start
     copy-part-requires
+    cast-t24
+    cast-t25
     cast-t26
-    cast-t27
-    cast-t28
     mul-staged
     array-set-from-staged
-    add-t19
+    add-described
     same-length
     returns-2)

@@ -4,7 +4,6 @@ use mathlib.Core.Path.{_≡_, sym, _∙_}
 use lib.ListN.{length}
 use Rattle.promises.specs.End.{endRefusal}
 use Rattle.promises.proofs.Changes.{end-met}
-use Rattle.soundness.proofs.Whole.{judged-whole}
 use Rattle.queueing.proofs.Refusals.{Closable, closable, end-refused}
 use borrow.Author.Needs.{needs}
 use native.Mathlib.Omega.{arith}
@@ -14,56 +13,52 @@ use Rattle.store.proofs.end.Tie as tie
 long-at : (c : tie.Start) → length (c .args .state .groups) ≡ 32
 long-at c = search needs
 
-figures-of-requires : tie.Need-figures-of-requires
-figures-of-requires c κs = search needs
-
-judged-requires : tie.Need-judged-requires
-judged-requires c κs = search needs
+checked-requires : tie.Need-checked-requires
+checked-requires c κs = search needs
 
 end-refusal-requires : tie.Need-end-refusal-requires
-end-refusal-requires c κs = judged-whole ((c .before .before .before .before .before) .args .state) _ _ ((c .before) .figures-of .ensures) (c .judged .ensures) .0
+end-refusal-requires c κs = c .checked .ensures .0
 
 refusal-of-requires : tie.Need-refusal-of-requires
 refusal-of-requires c κs = search needs
 
 returns : tie.Need-returns
 returns c =
-    end-refused (c .refusal-of .result) ((c .before .before) .end-refusal .result) (c .refusal-of .ensures) ((c .before) .if1 .taken) ((c .before .before .before .before .before .before .before .before) .args .state) ((c .before .before) .end-refusal .ensures .0)
+    end-refused (c .refusal-of .result) ((c .before .before) .end-refusal .result) (c .refusal-of .ensures) ((c .before) .if1 .taken) ((c .before .before .before .before) .args .state) ((c .before .before) .end-refusal .ensures .0)
 
 add-ticket : tie.Need-add-ticket
 add-ticket c =
-    let k : Closable ((c .before .before .before .before .before .before .before .before) .args .state) = closable ((c .before .before .before .before .before .before .before .before) .args .state) (long-at ((c .before .before .before .before .before .before .before .before))) (sym ((c .before .before) .end-refusal .ensures .0) ∙ (c .before) .if1 .left) in
+    let k : Closable ((c .before .before .before .before) .args .state) = closable ((c .before .before .before .before) .args .state) (long-at (c .before .before .before .before)) (sym ((c .before .before) .end-refusal .ensures .0) ∙ (c .before) .if1 .left) in
     omega (arith, k)
 
 add-ticket-2 : tie.Need-add-ticket-2
 add-ticket-2 c =
-    let k : Closable ((c .before .before .before .before .before .before .before .before) .args .state) = closable ((c .before .before .before .before .before .before .before .before) .args .state) (long-at ((c .before .before .before .before .before .before .before .before))) (sym ((c .before .before) .end-refusal .ensures .0) ∙ (c .before) .if1 .left) in
+    let k : Closable ((c .before .before .before .before) .args .state) = closable ((c .before .before .before .before) .args .state) (long-at (c .before .before .before .before)) (sym ((c .before .before) .end-refusal .ensures .0) ∙ (c .before) .if1 .left) in
     omega (arith, k)
 
 cast-groups : tie.Need-cast-groups
 cast-groups c =
-    let k : Closable ((c .before .before .before .before .before .before .before .before .before) .args .state) = closable ((c .before .before .before .before .before .before .before .before .before) .args .state) (long-at ((c .before .before .before .before .before .before .before .before .before))) (sym ((c .before .before .before) .end-refusal .ensures .0) ∙ (c .before .before) .if1 .left) in
+    let k : Closable ((c .before .before .before .before .before .before) .args .state) = closable ((c .before .before .before .before .before .before) .args .state) (long-at (c .before .before .before .before .before .before)) (sym ((c .before .before .before .before) .end-refusal .ensures .0) ∙ (c .before .before .before) .if1 .left) in
     omega (arith, k)
 
 array-write-groups : tie.Need-array-write-groups
 array-write-groups c =
-    let k : Closable ((c .before .before .before .before .before .before .before .before .before) .args .state) = closable ((c .before .before .before .before .before .before .before .before .before) .args .state) (long-at ((c .before .before .before .before .before .before .before .before .before))) (sym ((c .before .before .before) .end-refusal .ensures .0) ∙ (c .before .before) .if1 .left) in
+    let k : Closable ((c .before .before .before .before .before .before) .args .state) = closable ((c .before .before .before .before .before .before) .args .state) (long-at (c .before .before .before .before .before .before)) (sym ((c .before .before .before .before) .end-refusal .ensures .0) ∙ (c .before .before .before) .if1 .left) in
     omega (arith, k)
 
-add-t21 : tie.Need-add-t21
-add-t21 c =
-    let k : Closable ((c .before .before .before .before .before .before .before .before .before) .args .state) = closable ((c .before .before .before .before .before .before .before .before .before) .args .state) (long-at ((c .before .before .before .before .before .before .before .before .before))) (sym ((c .before .before .before) .end-refusal .ensures .0) ∙ (c .before .before) .if1 .left) in
+add-after : tie.Need-add-after
+add-after c =
+    let k : Closable ((c .before .before .before .before .before .before) .args .state) = closable ((c .before .before .before .before .before .before) .args .state) (long-at (c .before .before .before .before .before .before)) (sym ((c .before .before .before .before) .end-refusal .ensures .0) ∙ (c .before .before .before) .if1 .left) in
     omega (arith, k)
 
 returns-2 : tie.Need-returns-2
-returns-2 c = end-met ((c .before .before .before .before .before .before .before .before .before) .args .state) (long-at ((c .before .before .before .before .before .before .before .before .before))) (sym ((c .before .before .before) .end-refusal .ensures .0) ∙ (c .before .before) .if1 .left)
+returns-2 c = end-met ((c .before .before .before .before .before .before) .args .state) (long-at (c .before .before .before .before .before .before)) (sym ((c .before .before .before .before) .end-refusal .ensures .0) ∙ (c .before .before .before) .if1 .left)
 
 pub end-spec : {M : Type 1} → statement M
 end-spec =
     tie.close
     (tie.spec
-    figures-of-requires
-    judged-requires
+    checked-requires
     end-refusal-requires
     refusal-of-requires
     returns
@@ -71,5 +66,5 @@ end-spec =
     add-ticket-2
     cast-groups
     array-write-groups
-    add-t21
+    add-after
     returns-2)

@@ -5,8 +5,6 @@ use Prim.Native.Nat.{_≤_}
 use lib.ListN.{length}
 use Rattle.promises.specs.LogStep.{logRefusalOf}
 use Rattle.soundness.specs.Summed.{Summed}
-use Rattle.soundness.specs.Parts.{Judges}
-use Rattle.soundness.proofs.Whole.{judged-whole}
 use Rattle.stepping.proofs.Refused.{log-refused}
 use Rattle.logging.specs.Logging.{Ready}
 use Rattle.logging.proofs.Decision.{accepted, ready, ready-alone, held-within, kept-from}
@@ -16,24 +14,20 @@ use borrow.Author.Needs.{needs}
 use Rattle.store.proofs.log_step.Statement.{statement}
 use Rattle.store.proofs.log_step.Tie as tie
 
--- the verdict is one on the state
-judged-at : (c : tie.After-judged) → Judges (c .before .before .before .before .before .before .before .before .before .args .state) (c .judged .result)
-judged-at c = judged-whole (c .before .before .before .before .before .before .before .before .before .args .state) _ _ (c .before .figures-of .ensures) (c .judged .ensures)
-
 module _ (c : tie.Else1) where
   abbrev start : tie.Start
-  start = c .before .before .before .before .before .before .before .before .before .before .before .before
+  start = (c .before .before .before .before .before .before .before .before)
 
   -- the call is accepted
   none-at : logRefusalOf (start .args .state) (start .args .log .now) (start .args .home .now) (start .args .frames .now) (start .args .staging .now) ≡ 0
-  none-at = sym (c .before .log-refusal .ensures .0) ∙ c .if1 .left
+  none-at = sym ((c .before) .log-refusal .ensures .0) ∙ c .if1 .left
 
   ready-at : Ready (start .args .state) (length (start .args .log .now)) (length (start .args .home .now)) (length (start .args .frames .now)) (length (start .args .staging .now))
   ready-at = ready (start .args .state) _ _ _ _ none-at
 
-  sums-at : Summed (start .args .state) (c .before .before .before .judged .result .sums)
+  sums-at : Summed (start .args .state) ((c .before .before .before) .checked .result .sums)
   sums-at =
-      judged-at (c .before .before .before) .1
+      (c .before .before .before) .checked .ensures .1
       (accepted (start .args .state) (length (start .args .log .now)) (length (start .args .home .now)) (length (start .args .frames .now)) (length (start .args .staging .now)) none-at .isSound)
       .0
 
@@ -41,25 +35,22 @@ module _ (c : tie.Else1) where
 size-at : (c : tie.After-group-size) → c .group-size .result ≤ 16
 size-at c = let r = ready-at (c .before .before .before) .size in omega (arith, c .group-size .ensures)
 
-figures-of-requires : tie.Need-figures-of-requires
-figures-of-requires c κs = search needs
-
-judged-requires : tie.Need-judged-requires
-judged-requires c κs = search needs
+checked-requires : tie.Need-checked-requires
+checked-requires c κs = search needs
 
 log-refusal-requires : tie.Need-log-refusal-requires
-log-refusal-requires c κs = judged-at (c .before) .0
+log-refusal-requires c κs = (c .before) .checked .ensures .0
 
 refusal-of-requires : tie.Need-refusal-of-requires
 refusal-of-requires c κs = (c .before) .log-refusal .ensures .1 (c .if1 .taken)
 
 returns : tie.Need-returns
 returns c =
-    let a = (c .before .before .before .before .before .before .before .before .before .before .before .before .before) .args in
+    let a = (c .before .before .before .before .before .before .before .before .before) .args in
     log-refused (a .state) (a .log .now) (a .home .now) (a .frames .now) (a .staging .now) _ (c .refusal-of .ensures ∙ (c .before .before) .log-refusal .ensures .0)
 
 sub-keep-from : tie.Need-sub-keep-from
-sub-keep-from c = let h = held-within ((c .before .before .before .before .before .before .before .before .before .before .before .before .before) .args .state) _ (sums-at (c .before)) in omega arith
+sub-keep-from c = let h = held-within ((c .before .before .before .before .before .before .before .before .before) .args .state) _ (sums-at (c .before)) in omega arith
 
 add-next : tie.Need-add-next
 add-next c = let n = ready-at (c .before .before) .next in omega arith
@@ -69,7 +60,7 @@ group-size-requires c κs = search needs
 
 store-update-requires : tie.Need-store-update-requires
 store-update-requires c κs =
-    (omega (arith, (c .before .before .before) .group-size .ensures, (c .before) .if2 .taken), ready-alone ((c .before .before .before .before .before .before .before .before .before .before .before .before .before .before .before .before .before .before) .args .state) _ _ _ _ (ready-at (c .before .before .before .before .before .before)))
+    (omega (arith, (c .before .before .before) .group-size .ensures, (c .before) .if2 .taken), ready-alone ((c .before .before .before .before .before .before .before .before .before .before .before .before .before .before) .args .state) _ _ _ _ (ready-at (c .before .before .before .before .before .before)))
 
 add-stored : tie.Need-add-stored
 add-stored c = search needs
@@ -79,7 +70,7 @@ same-length c = search needs
 
 returns-2 : tie.Need-returns-2
 returns-2 c =
-    let a = (c .before .before .before .before .before .before .before .before .before .before .before .before .before .before .before .before .before .before .before .before .before .before) .args in
+    let a = (c .before .before .before .before .before .before .before .before .before .before .before .before .before .before .before .before .before .before) .args in
     update-steps (a .state) (a .log .now) (a .home .now) (a .frames .now) (a .staging .now) (none-at (c .before .before .before .before .before .before .before .before .before .before)) _ (kept-from (a .state) _ (sums-at (c .before .before .before .before .before .before .before .before .before .before))) _
     (omega (arith, (c .before .before .before .before .before .before .before) .group-size .ensures, (c .before .before .before .before .before) .if2 .taken)) ((c .before .before .before) .store-update .ensures)
 
@@ -87,22 +78,22 @@ store-commit-requires : tie.Need-store-commit-requires
 store-commit-requires c κs = ready-at (c .before .before .before .before .before .before .before)
 
 staged-shifted-requires : tie.Need-staged-shifted-requires
-staged-shifted-requires c κs = let h = size-at (c .before .before .before .before .before .before .before .before .before) in omega arith
+staged-shifted-requires c κs = let h = size-at (c .before .before .before .before .before .before .before .before .before .before .before) in omega arith
 
 groups-shifted-requires : tie.Need-groups-shifted-requires
 groups-shifted-requires c κs = search needs
 
 cleaning-left-requires : tie.Need-cleaning-left-requires
-cleaning-left-requires c κs = let h = size-at (c .before .before .before .before .before .before .before .before .before .before .before) in omega arith
+cleaning-left-requires c κs = let h = size-at (c .before .before .before .before .before .before .before .before .before .before .before .before .before) in omega arith
 
-add-t29 : tie.Need-add-t29
-add-t29 c = let r = ready-at (c .before .before .before .before .before .before .before .before .before .before .before .before .before .before .before .before) in let h = r .ticket in let n = r .next in omega arith
+add-t27 : tie.Need-add-t27
+add-t27 c = let r = ready-at (c .before .before .before .before .before .before .before .before .before .before .before .before .before .before .before .before .before .before) in let h = r .ticket in let n = r .next in omega arith
 
-sub-t23 : tie.Need-sub-t23
-sub-t23 c = let q = ready-at (c .before .before .before .before .before .before .before .before .before .before .before .before .before .before .before .before .before) .queued in omega arith
+sub-t21 : tie.Need-sub-t21
+sub-t21 c = let q = ready-at (c .before .before .before .before .before .before .before .before .before .before .before .before .before .before .before .before .before .before .before) .queued in omega arith
 
-add-t40 : tie.Need-add-t40
-add-t40 c = let r = ready-at (c .before .before .before .before .before .before .before .before .before .before .before .before .before .before .before .before .before .before) in let h = r .ticket in let n = r .next in omega arith
+add-t37 : tie.Need-add-t37
+add-t37 c = let r = ready-at (c .before .before .before .before .before .before .before .before .before .before .before .before .before .before .before .before .before .before .before .before) in let h = r .ticket in let n = r .next in omega arith
 
 same-length-2 : tie.Need-same-length-2
 same-length-2 c = search needs
@@ -112,18 +103,17 @@ same-length-3 c = search needs
 
 returns-3 : tie.Need-returns-3
 returns-3 c =
-    let a = (c .before .before .before .before .before .before .before .before .before .before .before .before .before .before .before .before .before .before .before .before .before .before .before .before .before .before .before .before .before .before) .args in
-    let g = (c .before .before .before .before .before .before .before .before .before .before .before .before .before .before .before) .group-size .ensures in
-    commit-steps (a .state) (a .log .now) (a .home .now) (a .frames .now) (a .staging .now) (none-at (c .before .before .before .before .before .before .before .before .before .before .before .before .before .before .before .before .before .before)) _ (kept-from (a .state) _ (sums-at (c .before .before .before .before .before .before .before .before .before .before .before .before .before .before .before .before .before .before))) _ _ _ _ _ _ _ g
+    let a = (c .before .before .before .before .before .before .before .before .before .before .before .before .before .before .before .before .before .before .before .before .before .before .before .before .before .before .before .before) .args in
+    let g = (c .before .before .before .before .before .before .before .before .before .before .before .before .before .before .before .before .before) .group-size .ensures in
+    commit-steps (a .state) (a .log .now) (a .home .now) (a .frames .now) (a .staging .now) (none-at (c .before .before .before .before .before .before .before .before .before .before .before .before .before .before .before .before .before .before .before .before)) _ (kept-from (a .state) _ (sums-at (c .before .before .before .before .before .before .before .before .before .before .before .before .before .before .before .before .before .before .before .before))) _ _ _ _ _ _ _ g
     ((c .before .before .before .before .before) .staged-shifted .ensures) ((c .before .before .before .before) .groups-shifted .ensures) ((c .before .before .before) .cleaning-left .ensures)
-    (omega (arith, g, (c .before .before .before .before .before .before .before .before .before .before .before .before .before) .if2 .left)) ((c .before .before .before .before .before .before .before .before .before .before) .store-commit .ensures)
+    (omega (arith, g, (c .before .before .before .before .before .before .before .before .before .before .before .before .before .before .before) .if2 .left)) ((c .before .before .before .before .before .before .before .before .before .before .before .before) .store-commit .ensures)
 
 pub log-step-spec : {M : Type 1} → statement M
 log-step-spec =
     tie.close
     (tie.spec
-    figures-of-requires
-    judged-requires
+    checked-requires
     log-refusal-requires
     refusal-of-requires
     returns
@@ -138,9 +128,9 @@ log-step-spec =
     staged-shifted-requires
     groups-shifted-requires
     cleaning-left-requires
-    add-t29
-    sub-t23
-    add-t40
+    add-t27
+    sub-t21
+    add-t37
     same-length-2
     same-length-3
     returns-3)

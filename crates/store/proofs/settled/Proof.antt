@@ -2,27 +2,23 @@
 -- Assumes nothing.
 use mathlib.Core.Path.{sym, _∙_}
 use borrow.Author.Tests.{le-leb, lt-leb}
-use Rattle.soundness.proofs.Whole.{judged-whole}
 use Rattle.queueing.proofs.Refusals.{settled-refused}
 use borrow.Author.Needs.{needs}
 use Rattle.store.proofs.settled.Statement.{statement}
 use Rattle.store.proofs.settled.Tie as tie
 
-figures-of-requires : tie.Need-figures-of-requires
-figures-of-requires c κs = search needs
-
-judged-requires : tie.Need-judged-requires
-judged-requires c κs = search needs
+checked-requires : tie.Need-checked-requires
+checked-requires c κs = search needs
 
 settled-refusal-requires : tie.Need-settled-refusal-requires
-settled-refusal-requires c κs = judged-whole ((c .before .before .before .before .before) .args .state) _ _ ((c .before) .figures-of .ensures) (c .judged .ensures) .0
+settled-refusal-requires c κs = c .checked .ensures .0
 
 refusal-of-requires : tie.Need-refusal-of-requires
 refusal-of-requires c κs = search needs
 
 returns : tie.Need-returns
 returns c =
-    let args = (c .before .before .before .before .before .before .before .before) .args in
+    let args = (c .before .before .before .before) .args in
     settled-refused (c .refusal-of .result) ((c .before .before) .settled-refusal .result) (c .refusal-of .ensures) ((c .before) .if1 .taken) (args .state) (args .ticket) ((c .before .before) .settled-refusal .ensures .0)
 
 returns-2 : tie.Need-returns-2
@@ -35,8 +31,7 @@ pub settled-spec : {M : Type 1} → statement M
 settled-spec =
     tie.close
     (tie.spec
-    figures-of-requires
-    judged-requires
+    checked-requires
     settled-refusal-requires
     refusal-of-requires
     returns

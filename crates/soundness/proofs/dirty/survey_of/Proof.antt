@@ -15,22 +15,22 @@ use Rattle.soundness.proofs.dirty.survey_of.Statement.{statement}
 use Rattle.soundness.proofs.dirty.survey_of.Tie as tie
 
 abbrev Inv-loop2 : tie.InvT-loop2
-Inv-loop2 pages frames next own dirty list₀ count₀ low₀ legal₀ i end j₀ list count low legal j = (j ≤ end) × Told pages frames next own dirty list count low legal j
+Inv-loop2 pages frames next own list₀ dirty count₀ low₀ legal₀ i end j₀ list count low legal j = (j ≤ end) × Told pages frames next own dirty list count low legal j
 
 abbrev μ-loop2 : tie.MeasureT-loop2
-μ-loop2 pages frames next own dirty list₀ count₀ low₀ legal₀ i end j₀ list count low legal j = end - j
+μ-loop2 pages frames next own list₀ dirty count₀ low₀ legal₀ i end j₀ list count low legal j = end - j
 
 abbrev Inv-loop : tie.InvT-loop
-Inv-loop pages frames next own dirty list₀ count₀ low₀ legal₀ i₀ list count low legal i = (i % 4 ≡ 0) × Told pages frames next own dirty list count low legal i
+Inv-loop pages frames next own list₀ dirty count₀ low₀ legal₀ i₀ list count low legal i = (i % 4 ≡ 0) × Told pages frames next own dirty list count low legal i
 
 abbrev μ-loop : tie.MeasureT-loop
-μ-loop pages frames next own dirty list₀ count₀ low₀ legal₀ i₀ list count low legal i = 32 - i
+μ-loop pages frames next own list₀ dirty count₀ low₀ legal₀ i₀ list count low legal i = 32 - i
 
 long-at : (c : tie.Start Inv-loop2 μ-loop2 Inv-loop μ-loop) → length (c .args .t1) ≡ 32
 long-at c = search (needs, length-mapped)
 
 loop-holds : tie.Need-loop-holds Inv-loop2 μ-loop2 Inv-loop μ-loop
-loop-holds c = (omega arith, record { few = omega arith; counted = omega arith; lower = omega arith; long = search needs; legals = refl; firsts = omega arith; oldest = refl; numbers = refl })
+loop-holds c = (omega arith, record { few = omega arith; counted = omega arith; lower = omega arith; long = (c .before) .pre; legals = refl; firsts = omega arith; oldest = refl; numbers = refl })
 
 mul-one : tie.Need-mul-one Inv-loop2 μ-loop2 Inv-loop μ-loop
 mul-one c = omega (arith, (c .before) .loop .inv .0, c .loop-test .taken)
@@ -86,8 +86,8 @@ lower-requires c κs = search needs
 mul-list : tie.Need-mul-list Inv-loop2 μ-loop2 Inv-loop μ-loop
 mul-list c = let t = (c .before .before .before .before .before .before) .loop2 .inv .1 in omega (arith, t .counted, t .long, (c .before .before .before .before .before .before .before .before .before .before .before .before .before .before .before .before .before) .loop .inv .0, (c .before .before .before .before .before .before .before .before .before .before .before .before .before .before .before .before) .loop-test .taken, (c .before .before .before .before .before) .loop2-test .taken)
 
-array-write-list : tie.Need-array-write-list Inv-loop2 μ-loop2 Inv-loop μ-loop
-array-write-list c = let t = (c .before .before .before .before .before .before) .loop2 .inv .1 in omega (arith, t .counted, t .long, (c .before .before .before .before .before .before .before .before .before .before .before .before .before .before .before .before .before) .loop .inv .0, (c .before .before .before .before .before .before .before .before .before .before .before .before .before .before .before .before) .loop-test .taken, (c .before .before .before .before .before) .loop2-test .taken)
+slice-write-list : tie.Need-slice-write-list Inv-loop2 μ-loop2 Inv-loop μ-loop
+slice-write-list c = let t = (c .before .before .before .before .before .before) .loop2 .inv .1 in omega (arith, t .counted, t .long, (c .before .before .before .before .before .before .before .before .before .before .before .before .before .before .before .before .before) .loop .inv .0, (c .before .before .before .before .before .before .before .before .before .before .before .before .before .before .before .before) .loop-test .taken, (c .before .before .before .before .before) .loop2-test .taken)
 
 add-count : tie.Need-add-count Inv-loop2 μ-loop2 Inv-loop μ-loop
 add-count c = let t = (c .before .before .before .before .before .before) .loop2 .inv .1 in omega (arith, t .counted, t .long, (c .before .before .before .before .before .before .before .before .before .before .before .before .before .before .before .before .before) .loop .inv .0, (c .before .before .before .before .before .before .before .before .before .before .before .before .before .before .before .before) .loop-test .taken, (c .before .before .before .before .before) .loop2-test .taken)
@@ -100,11 +100,11 @@ loop2-less c = omega (arith, (c .before .before .before) .loop2-test .taken)
 
 loop2-again : tie.Need-loop2-again Inv-loop2 μ-loop2 Inv-loop μ-loop
 loop2-again c =
-    let args = (c .before .before .before .before .before .before .before .before .before .before .before .before .before .before .before .before) .args in
+    let args = (c .before .before .before .before .before .before .before .before .before .before .before .before .before .before .before .before .before) .args in
     let dirty = args .t1 in
     let at = (c .before .before .before .before) .loop2 in
     let t = at .inv .1 in
-    let long : length dirty ≡ 32 = long-at ((c .before .before .before .before .before .before .before .before .before .before .before .before .before .before .before .before)) in
+    let long : length dirty ≡ 32 = long-at ((c .before .before .before .before .before .before .before .before .before .before .before .before .before .before .before .before .before)) in
     let few : at .j < 32 = omega (arith, (c .before .before .before .before .before .before .before .before .before .before .before .before .before .before .before) .loop .inv .0, (c .before .before .before .before .before .before .before .before .before .before .before .before .before .before) .loop-test .taken, (c .before .before .before) .loop2-test .taken) in
     let here : at .j < length dirty = omega arith in
     let room : at .count < length (at .list) = omega (arith, t .counted, t .long) in (
@@ -141,11 +141,11 @@ loop-less c = omega (arith, (c .before .before .before .before .before .before .
 
 loop-again : tie.Need-loop-again Inv-loop2 μ-loop2 Inv-loop μ-loop
 loop-again c =
-    let args = (c .before .before .before .before .before .before .before .before .before .before .before) .args in
+    let args = (c .before .before .before .before .before .before .before .before .before .before .before .before) .args in
     let dirty = args .t1 in
     let at = (c .before .before .before .before .before .before .before .before .before .before) .loop in
     let t = at .inv .1 in
-    let long : length dirty ≡ 32 = long-at ((c .before .before .before .before .before .before .before .before .before .before .before)) in
+    let long : length dirty ≡ 32 = long-at ((c .before .before .before .before .before .before .before .before .before .before .before .before)) in
     let within : at .i + 4 ≤ 32 = omega (arith, at .inv .0, (c .before .before .before .before .before .before .before .before .before) .loop-test .taken) in (
       omega (arith, at .inv .0),
       ⊎-elim
@@ -159,13 +159,16 @@ loop-again c =
           (c .if1 .came),
     )
 
+same-length : tie.Need-same-length Inv-loop2 μ-loop2 Inv-loop μ-loop
+same-length c = search needs
+
 returns : tie.Need-returns Inv-loop2 μ-loop2 Inv-loop μ-loop
 returns c =
-    let args = (c .before .before) .args in
+    let args = (c .before .before .before) .args in
     let dirty = args .t1 in
     let at = (c .before) .loop in
     let t = at .inv .1 in
-    let long : length dirty ≡ 32 = long-at ((c .before .before)) in
+    let long : length dirty ≡ 32 = long-at ((c .before .before .before)) in
     let past : length dirty ≤ at .i = omega (arith, c .loop-test .left) in (
       legal-end (args .pages) (args .frames) (args .next) dirty (at .i) (at .legal) (entriesLegal (args .pages) (args .frames) (args .next) 0 dirty) past (t .legals),
       omega (arith, ap length (firsts-end dirty (at .i) past), t .firsts),
@@ -173,7 +176,6 @@ returns c =
       sym (ap (smallest (at .low)) (firsts-end dirty (at .i) past)) ∙ t .oldest,
       t .lower,
       gather-end (at .list) (dirtyNumbers (drop (at .i) dirty)) (dirtyNumbers dirty) (at .count) (pages-end dirty (at .i) past) (t .numbers),
-      t .long,
     )
 
 pub survey-of-spec : {M : Type 1} → statement M
@@ -203,7 +205,7 @@ survey-of-spec =
     entry-sound-requires
     lower-requires
     mul-list
-    array-write-list
+    slice-write-list
     add-count
     add-j
     loop2-less
@@ -211,4 +213,5 @@ survey-of-spec =
     add-i
     loop-less
     loop-again
+    same-length
     returns)

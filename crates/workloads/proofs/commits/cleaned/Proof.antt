@@ -1,47 +1,57 @@
--- `commits::cleaned` is safe: three calls that ask nothing, and the areas keep their lengths.
+-- `commits::cleaned` is safe and ends: the steps that are left fall. The loop's invariant: the areas keep their lengths.
 -- Assumes nothing.
-use native.Mathlib.Omega.{arith}
+use mathlib.Core.Path.{_≡_}
+use lib.ListN.{length}
 use borrow.Author.Needs.{needs}
+use native.Mathlib.Omega.{arith}
 use Rattle.workloads.proofs.commits.cleaned.Statement.{statement}
 use Rattle.workloads.proofs.commits.cleaned.Tie as tie
 
-clean-step-requires : tie.Need-clean-step-requires
+abbrev Inv-loop : tie.InvT-loop
+Inv-loop log₀ home₀ frames steps state₀ digest₀ left₀ log home state digest left = (length log ≡ length log₀) × (length home ≡ length home₀)
+
+abbrev μ-loop : tie.MeasureT-loop
+μ-loop log₀ home₀ frames steps state₀ digest₀ left₀ log home state digest left = left
+
+loop-holds : tie.Need-loop-holds Inv-loop μ-loop
+loop-holds c = search needs
+
+clean-step-requires : tie.Need-clean-step-requires Inv-loop μ-loop
 clean-step-requires c κs = search needs
 
-clean-step-requires-2 : tie.Need-clean-step-requires-2
-clean-step-requires-2 c κs = search needs
-
-clean-step-requires-3 : tie.Need-clean-step-requires-3
-clean-step-requires-3 c κs = search needs
-
-answered-requires : tie.Need-answered-requires
+answered-requires : tie.Need-answered-requires Inv-loop μ-loop
 answered-requires c κs = search needs
 
-answered-requires-2 : tie.Need-answered-requires-2
-answered-requires-2 c κs = search needs
+sub-left : tie.Need-sub-left Inv-loop μ-loop
+sub-left c = omega (arith, (c .before .before .before .before .before .before .before .before .before) .loop-test .taken)
 
-answered-requires-3 : tie.Need-answered-requires-3
-answered-requires-3 c κs = search needs
+loop-less : tie.Need-loop-less Inv-loop μ-loop
+loop-less c = omega (arith, (c .before .before .before .before .before .before .before .before .before) .loop-test .taken)
 
-same-length : tie.Need-same-length
-same-length c = omega (arith, (c .before .before .before .before .before .before .before .before .before .before .before .before .before .before .before .before .before .before .before .before .before .before .before .before) .clean-step .kept, (c .before .before .before .before .before .before .before .before .before .before .before .before .before .before .before .before) .clean-step2 .kept, (c .before .before .before .before .before .before .before .before) .clean-step3 .kept)
+loop-again : tie.Need-loop-again Inv-loop μ-loop
+loop-again c = omega (arith, (c .before .before .before .before .before .before .before .before .before .before) .loop .inv, (c .before .before .before .before .before .before) .clean-step .kept)
 
-same-length-2 : tie.Need-same-length-2
-same-length-2 c = omega (arith, (c .before .before .before .before .before .before .before .before .before .before .before .before .before .before .before .before .before .before .before .before .before .before .before .before) .clean-step .kept, (c .before .before .before .before .before .before .before .before .before .before .before .before .before .before .before .before) .clean-step2 .kept, (c .before .before .before .before .before .before .before .before) .clean-step3 .kept)
+same-length : tie.Need-same-length Inv-loop μ-loop
+same-length c = omega (arith, (c .before) .loop .inv)
 
-returns : tie.Need-returns
+same-length-2 : tie.Need-same-length-2 Inv-loop μ-loop
+same-length-2 c = omega (arith, (c .before) .loop .inv)
+
+returns : tie.Need-returns Inv-loop μ-loop
 returns c = search needs
 
 pub cleaned-spec : {M : Type 1} → statement M
 cleaned-spec =
     tie.close
     (tie.spec
+    Inv-loop
+    μ-loop
+    loop-holds
     clean-step-requires
-    clean-step-requires-2
-    clean-step-requires-3
     answered-requires
-    answered-requires-2
-    answered-requires-3
+    sub-left
+    loop-less
+    loop-again
     same-length
     same-length-2
     returns)
