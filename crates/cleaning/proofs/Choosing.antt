@@ -8,7 +8,7 @@ use native.Mathlib.Omega.{arith}
 use lib.Dec.{eqb, ltb}
 use lib.ListN.{length, drop, getD, set}
 use lib.Seq.{getD-set-same, getD-set-other, set-getD, lt-length-set}
-use borrow.Author.Tests.{eqb-true, eqb-false, eq-eqb, ne-eqb, ltb-true, not-true}
+use borrow.Author.Tests.{eqb-true, eqb-false, eq-eqb, ne-eqb, ltb-true, ltb-false, not-true}
 use Rattle.area.proofs.Parts.{either}
 use Rattle.block.proofs.Tests.{never-both, by-cases}
 use Rattle.promises.specs.declared.State.{State}
@@ -102,6 +102,10 @@ module _ (named : ℕ) (ds : List Dirty) (best least i : ℕ) (l : Leads named d
   pub leads-free : getD ds i free .first ≡ 0 → Leads named ds best least (i + 1)
   leads-free z = leads-kept (2 ^ 64 - 1) (sym (rank-free named (getD ds i free) z)) (omega arith) (l .most)
 
+  -- nothing comes before rank 0
+  pub leads-all : least ≡ 0 → (j : ℕ) → rankIn named (getD ds best free) ≤ rankIn named (getD ds j free)
+  leads-all z j = omega (arith, l .reached)
+
   -- those that are left are free
   module _ (none : length (firstGroups (drop i ds)) ≡ 0) where
     best-few : rankIn named (getD ds best free) ≤ 2 ^ 64 - 1
@@ -112,6 +116,19 @@ module _ (named : ℕ) (ds : List Dirty) (best least i : ℕ) (l : Leads named d
     leads-end j =
         by-eq (getD ds j free .first) 0 (λ z. omega (arith, best-few, rank-free named (getD ds j free) z))
         (λ n. omega (arith, best-few, l .reached, l .passed j (used-below i ds j none n) .0))
+
+-- ---- the search's test
+
+pub searches-on : (left least : ℕ) → (ltb 0 left && ltb 0 least) ≡ true → (0 < left) × (0 < least)
+searches-on left least e = let b = and-both (ltb 0 left) (ltb 0 least) e in (ltb-true 0 left (b .0), ltb-true 0 least (b .1))
+
+-- it ends where no page is left, or at rank 0
+pub search-ends : (C : Type 0) (left least : ℕ) → (ltb 0 left && ltb 0 least) ≡ false → (left ≡ 0 → C) → (least ≡ 0 → C) → C
+search-ends C left least e none found = go (ltb 0 left) refl e
+  where
+    go : (b : Bool) → ltb 0 left ≡ b → (b && ltb 0 least) ≡ false → C
+    go true p q = let z : least ≤ 0 = ltb-false 0 least q in found (omega arith)
+    go false p q = let z : left ≤ 0 = ltb-false 0 left p in none (omega arith)
 
 -- ---- the rank of a named page
 

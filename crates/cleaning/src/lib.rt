@@ -139,7 +139,8 @@ pub struct Choice {
     pub entry: Dirty,
 }
 
-// The frame of the page that is cleaned, where so many are dirty: the one that comes first in the order of cleaning.
+// The frame of the page that is cleaned, where so many are dirty: the one that comes first in the order of cleaning. The search ends with
+// the last dirty page, or with the named one, before which none comes.
 pub fn frame_to_clean(state: State, count: usize) -> Choice
     requires { ⌜ (sound state ≡ true) × (dirtyCount state ≡ 0 → ⊥) × (count ≡ dirtyCount state) ⌝ }
     ensures { λ r. ⌜ Chosen state (r .frame) × (r .entry ≡ entryAt state (r .frame)) ⌝ }
@@ -151,7 +152,7 @@ pub fn frame_to_clean(state: State, count: usize) -> Choice
     let mut least: u64 = 18446744073709551615;
     let mut left = count;
     let mut i = 0;
-    while 0 < left {
+    while (0 < left) & (0 < least) {
         let entry = dirty[i];
         if entry.first != 0 {
             let own = rank(entry, named);

@@ -230,14 +230,14 @@ pub fn clean_step(state: State, log: &mut [u8], home: &mut [u8], frames: &[u8]) 
         home.len(),
         frames.len(),
     );
+    let staged = state.staged;
+    let groups = state.groups;
+    let mut dirty = state.dirty;
     let change = cleaning::clean_change(number, state, sums.dirty, log, home, frames);
     let frame = change.frame;
     let entry = change.entry;
     let cleaning = change.cleaning;
     let answer = cleaning::answer_of(number);
-    let staged = state.staged;
-    let groups = state.groups;
-    let mut dirty = state.dirty;
     dirty[frame] = entry;
     Outcome {
         state: State {

@@ -1,4 +1,5 @@
--- `cleaning::frame_to_clean` meets its contract: the least rank of those passed, and the count of dirty pages that are left.
+-- `cleaning::frame_to_clean` meets its contract: the least rank of those passed, and the count of dirty pages that are left. At rank 0
+-- none comes before.
 -- Assumes nothing.
 use Prim.Native.Nat.{ℕ, _+_, _-_, _≤_, _<_}
 use mathlib.Core.Path.{_≡_, refl, sym, _∙_, subst, subst₂}
@@ -8,7 +9,7 @@ use Rattle.promises.specs.Sums.{firstGroups}
 use Rattle.promises.proofs.Soundness.{sound-of}
 use Rattle.table.proofs.Scans.{length-mapped}
 use Rattle.cleaning.specs.Cleans.{entryAt, rankIn}
-use Rattle.cleaning.proofs.Choosing.{more-left, left-used, left-free, Leads, leads-start, leads-lower, leads-kept, leads-free, leads-end, firsts-small}
+use Rattle.cleaning.proofs.Choosing.{more-left, left-used, left-free, Leads, leads-start, leads-lower, leads-kept, leads-free, leads-all, leads-end, searches-on, search-ends, firsts-small}
 use Rattle.cleaning.proofs.Stepped.{chosen-least}
 use borrow.Author.Needs.{needs}
 use native.Mathlib.Omega.{arith}
@@ -28,7 +29,7 @@ long-at c = search (needs, length-mapped)
 here-at : (c : tie.In-loop Inv-loop μ-loop) → c .before .loop .i < 32
 here-at c =
     let ds = c .before .before .before .before .args .state .dirty in
-    let more : c .before .loop .i < length (c .before .before .before .before .args .state .dirty) = more-left ds (c .before .loop .i) (omega (arith, c .before .loop .inv .2, c .loop-test .taken)) in
+    let more : c .before .loop .i < length (c .before .before .before .before .args .state .dirty) = more-left ds (c .before .loop .i) (omega (arith, c .before .loop .inv .2, searches-on (c .before .loop .left) (c .before .loop .least) (c .loop-test .taken) .0)) in
     omega (arith, long-at (c .before .before .before .before))
 
 named-in-requires : tie.Need-named-in-requires Inv-loop μ-loop
@@ -47,7 +48,7 @@ rank-requires : tie.Need-rank-requires Inv-loop μ-loop
 rank-requires c κs = firsts-small ((c .before .before .before .before .before .before .before) .args .state) (sound-of _ ((c .before .before .before .before .before .before .before) .pre .0)) ((c .before .before .before .before) .loop .i)
 
 sub-left : tie.Need-sub-left Inv-loop μ-loop
-sub-left c = search needs
+sub-left c = let on = searches-on ((c .before .before .before .before .before .before) .loop .left) ((c .before .before .before .before .before .before) .loop .least) ((c .before .before .before .before .before) .loop-test .taken) .0 in omega arith
 
 add-i : tie.Need-add-i Inv-loop μ-loop
 add-i c = search needs
@@ -96,8 +97,10 @@ returns : tie.Need-returns Inv-loop μ-loop
 returns c =
     let s = (c .before .before .before .before .before) .args .state in
     let l = (c .before .before) .loop in
-    let none : length (firstGroups (drop (l .i) (s .dirty))) ≡ 0 = omega (arith, l .inv .2, (c .before) .loop-test .left) in
-    let least = leads-end ((c .before .before .before .before) .named-in .result) (s .dirty) (l .best) (l .least) (l .i) (l .inv .3) none in (
+    let named = (c .before .before .before .before) .named-in .result in
+    let least = search-ends ((other : ℕ) → rankIn named (entryAt s (l .best)) ≤ rankIn named (entryAt s other)) (l .left) (l .least) ((c .before) .loop-test .left)
+    (λ z. leads-end named (s .dirty) (l .best) (l .least) (l .i) (l .inv .3) (omega (arith, l .inv .2)))
+    (leads-all named (s .dirty) (l .best) (l .least) (l .i) (l .inv .3)) in (
       chosen-least s (l .best) ((c .before .before .before .before .before) .pre .0) ((c .before .before .before .before .before) .pre .1)
           (subst (λ (n : ℕ). (other : ℕ) → rankIn n (entryAt s (l .best)) ≤ rankIn n (entryAt s other)) ((c .before .before .before .before) .named-in .ensures) least),
       refl,

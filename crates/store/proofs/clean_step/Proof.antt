@@ -17,19 +17,19 @@ clean-refusal-requires : tie.Need-clean-refusal-requires
 clean-refusal-requires c κs = (c .before) .checked .ensures
 
 clean-change-requires : tie.Need-clean-change-requires
-clean-change-requires c κs = ((c .before .before) .clean-refusal .ensures, λ h. (c .before .before .before .before) .checked .ensures .1 h .0 .dirty)
+clean-change-requires c κs = ((c .before .before .before .before .before) .clean-refusal .ensures, λ h. (c .before .before .before .before .before .before .before) .checked .ensures .1 h .0 .dirty)
 
 answer-of-requires : tie.Need-answer-of-requires
 answer-of-requires c κs =
-    let a = (c .before .before .before .before .before .before .before .before .before .before .before .before .before .before) .args in
-    subst (λ (n : ℕ). (n ≡ 0 → ⊥) → (n ≡ 1 → ⊥) → (n ≡ 2 → ⊥) → (n ≡ 6 → ⊥) → (n ≡ 10 → ⊥) → n ≡ 11) (sym ((c .before .before .before .before .before .before .before .before) .clean-refusal .ensures))
+    let a = (c .before .before .before .before .before .before .before .before .before .before .before .before .before .before .before .before .before) .args in
+    subst (λ (n : ℕ). (n ≡ 0 → ⊥) → (n ≡ 1 → ⊥) → (n ≡ 2 → ⊥) → (n ≡ 6 → ⊥) → (n ≡ 10 → ⊥) → n ≡ 11) (sym ((c .before .before .before .before .before .before .before .before .before .before .before) .clean-refusal .ensures))
     (other-number (a .state) (length (a .log .now)) (length (a .home .now)) (length (a .frames .now)))
 
 mul-dirty : tie.Need-mul-dirty
-mul-dirty c = let h = (c .before .before .before .before .before .before .before .before .before) .clean-change .ensures .frameFew in omega arith
+mul-dirty c = let h = (c .before .before .before .before .before .before) .clean-change .ensures .frameFew in omega arith
 
 array-set-from-dirty : tie.Need-array-set-from-dirty
-array-set-from-dirty c = let h = (c .before .before .before .before .before .before .before .before .before) .clean-change .ensures .frameFew in omega arith
+array-set-from-dirty c = let h = (c .before .before .before .before .before .before) .clean-change .ensures .frameFew in omega arith
 
 same-length : tie.Need-same-length
 same-length c = search needs
@@ -40,7 +40,7 @@ same-length-2 c = search needs
 returns : tie.Need-returns
 returns c =
     let a = (c .before .before .before .before .before .before .before .before .before .before .before .before .before .before .before .before .before .before) .args in
-    answered (a .state) (a .log .now) (a .home .now) (a .frames .now) _ _ _ _ ((c .before .before .before) .answer-of .ensures ∙ (c .before .before .before .before .before .before .before .before .before .before .before .before) .clean-refusal .ensures) ((c .before .before .before .before .before .before .before .before .before) .clean-change .ensures)
+    answered (a .state) (a .log .now) (a .home .now) (a .frames .now) _ _ _ _ (c .answer-of .ensures ∙ (c .before .before .before .before .before .before .before .before .before .before .before .before) .clean-refusal .ensures) ((c .before .before .before .before .before .before) .clean-change .ensures)
 
 pub clean-step-spec : {M : Type 1} → statement M
 clean-step-spec =
