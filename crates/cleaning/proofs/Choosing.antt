@@ -1,7 +1,7 @@
 -- The frame that is cleaned next: the least rank of all, and what soundness says of a frame's entry.
 -- Assumes nothing.
 use mathlib.Core.Path.{_≡_, refl, sym, ap, _∙_, subst}
-use mathlib.Core.Bool.{Bool, true, false, cond, not, _&&_, _||_}
+use mathlib.Core.Bool.{Bool, true, false, cond, not, _&&_}
 use mathlib.Core.List.{List, [], _∷_}
 use Prim.Native.Nat.{ℕ, zero, suc, _+_, _-_, _*_, _^_, _≤_, _<_, min}
 use native.Mathlib.Omega.{arith}
@@ -10,7 +10,7 @@ use lib.ListN.{length, drop, getD, set}
 use lib.Seq.{getD-set-same, getD-set-other, set-getD, lt-length-set}
 use borrow.Author.Tests.{eqb-true, eqb-false, eq-eqb, ne-eqb, ltb-true, ltb-false, not-true}
 use Rattle.area.proofs.Parts.{either}
-use Rattle.block.proofs.Tests.{never-both, by-cases}
+use Rattle.block.proofs.Tests.{never-both}
 use Rattle.promises.specs.declared.State.{State}
 use Rattle.promises.specs.declared.Dirty.{Dirty}
 use Rattle.promises.specs.Areas.{pageAt}
@@ -21,9 +21,9 @@ use Rattle.promises.specs.Sound.{member, allBelow, dirtyNumbers}
 use Rattle.promises.proofs.Soundness.{and-both, Sound}
 use Rattle.promises.proofs.Table.{lookUp-set}
 use Rattle.promises.proofs.History.Sees.{by-eq}
-use Rattle.soundness.proofs.Scans.{pages-more, pages-same, firsts-more, firsts-same, firsts-end}
+use Rattle.soundness.proofs.Scans.{firsts-more, firsts-same, firsts-end}
 use Rattle.table.specs.Search.{free, isOf}
-use Rattle.table.proofs.Entries.{own-apart}
+use Rattle.table.proofs.Entries.{own-apart, first-below}
 use Rattle.table.proofs.Scans.{lower, not-lower}
 use Rattle.cleaning.specs.Cleans.{entryAt, rankOf, rankIn, Named}
 
@@ -221,18 +221,6 @@ lowest-but low i ds frame e = smallest-none low (firstGroups (drop i (set ds fra
 
 -- ---- one entry of those that soundness speaks of
 
-below-at : (next : ℕ) (ds : List Dirty) (i : ℕ) → 0 < next → allBelow next (firstGroups ds) ≡ true → getD ds i free .first < next
-unfolding firstGroups
-below-at next [] i z h = z
-below-at next (d ∷ ds) i z h = go (eqb (d .first) 0) refl h (below-at next ds) i
-  where
-    go : (t : Bool) → eqb (d .first) 0 ≡ t → allBelow next (unless t (d .first) (firstGroups ds)) ≡ true
-        → ((i : ℕ) → 0 < next → allBelow next (firstGroups ds) ≡ true → getD ds i free .first < next) → (i : ℕ) → getD (d ∷ ds) i free .first < next
-    go true e h ih zero = omega (arith, eqb-true (d .first) 0 e)
-    go true e h ih (suc i) = ih i z h
-    go false e h ih zero = ltb-true _ _ (and-both (ltb (d .first) next) (allBelow next (firstGroups ds)) h .0)
-    go false e h ih (suc i) = ih i z (and-both (ltb (d .first) next) (allBelow next (firstGroups ds)) h .1)
-
 page-at : (pages : ℕ) (ds : List Dirty) (i : ℕ) → allBelow pages (dirtyNumbers ds) ≡ true → (getD ds i free .first ≡ 0 → ⊥) → getD ds i free .page < pages
 unfolding dirtyNumbers
 page-at pages [] i h n = absurd (n refl)
@@ -255,7 +243,7 @@ none-used (d ∷ ds) h = simp (eq-eqb _ _ (h 0 (omega arith))) (none-used ds (λ
 -- ---- the frame that comes first
 module _ (s : State) (f : Sound s) where
   pub firsts-small : (frame : ℕ) → entryAt s frame .first < 2 ^ 48
-  firsts-small frame = omega (arith, below-at (s .next) (s .dirty) frame (omega (arith, f .ticket)) (f .firstsBelow), f .sequenceSum)
+  firsts-small frame = omega (arith, first-below (s .next) (s .dirty) frame (omega (arith, f .ticket)) (f .firstsBelow), f .sequenceSum)
 
   pub pages-small : (frame : ℕ) → (entryAt s frame .first ≡ 0 → ⊥) → entryAt s frame .page < s .pages
   pages-small frame n = page-at (s .pages) (s .dirty) frame (f .pagesBelow) n

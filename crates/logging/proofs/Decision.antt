@@ -1,21 +1,20 @@
 -- Log step's refusal, test by test, and what an accepted Log step leans on.
 -- Assumes nothing.
 use mathlib.Core.Path.{_≡_, ap, _∙_, subst}
-use mathlib.Core.Bool.{Bool, true, false, cond, _&&_}
+use mathlib.Core.Bool.{Bool, true, cond, _&&_}
 use mathlib.Core.List.{List, [], _∷_}
 use Prim.Native.Nat.{ℕ, zero, suc, _+_, _-_, _^_, _≤_, _<_}
 use native.Mathlib.Omega.{arith}
 use lib.Dec.{eqb, leb, ltb}
 use lib.ListN.{length, getD}
 use lib.Seq.{getD-take, length-take-le}
-use borrow.Author.Tests.{eqb-true, eqb-false, leb-true, ltb-true}
+use borrow.Author.Tests.{eqb-false, leb-true, ltb-true}
 use Rattle.block.specs.Legal.{legalPlace}
-use Rattle.block.proofs.Tests.{tests, by-cases}
+use Rattle.block.proofs.Tests.{tests}
 use Rattle.promises.specs.declared.State.{State}
 use Rattle.promises.specs.declared.Staged.{Staged}
-use Rattle.promises.specs.declared.Dirty.{Dirty}
 use Rattle.promises.specs.Areas.{logLength, homeLength, framesLength, stagingLength, pagesIn}
-use Rattle.promises.specs.Contents.{unless, groupsOf, total}
+use Rattle.promises.specs.Contents.{groupsOf, total}
 use Rattle.promises.specs.Sums.{blockCount, firstGroups, groupStart, smallest}
 use Rattle.promises.specs.Sound.{sound, stagedOf, areasOf, allBelow, allLegal, sizesLegal, ofOldest}
 use Rattle.promises.specs.LogStep.{areasFit, logRefusal}
@@ -24,6 +23,7 @@ use Rattle.promises.proofs.Changes.{pick-zero, pick-other, held-is, smallest-le
 use Rattle.soundness.specs.declared.sums.Sums.{Sums}
 use Rattle.soundness.specs.Summed.{Summed}
 use Rattle.table.specs.Search.{free}
+use Rattle.table.proofs.Entries.{first-below}
 use Rattle.queue.specs.Queue.{commitDone}
 use Rattle.queue.proofs.Leaving.{groups-left}
 use Rattle.logging.specs.Logging.{noStaged, sizeOf, stagedAt, Placed, Lent, Ready}
@@ -69,20 +69,6 @@ area-at frames (x ∷ xs) (suc i) h e = area-at frames xs i (omega arith) (and-b
 
 placed-by : (pages frames : ℕ) (x : Staged) → legalPlace pages (x .page) (x .offset) (x .length) ≡ true → x .area < frames → Placed pages frames x
 placed-by pages frames x h a = let g = simp tests at h in record { page = omega arith; some = omega arith; length = omega arith; end = omega arith; area = a }
-
--- first groups below an end: a free frame's is 0
-first-below : (end : ℕ) (ds : List Dirty) (i : ℕ) → 0 < end → allBelow end (firstGroups ds) ≡ true → getD ds i free .first < end
-unfolding firstGroups
-first-below end [] i z h = z
-first-below end (d ∷ ds) zero z h =
-    by-cases (eqb (d .first) 0)
-    (λ t. let e : d .first ≡ 0 = eqb-true (d .first) 0 t in omega arith)
-    (λ t. ltb-true _ _ (and-both (ltb (d .first) end) (allBelow end (firstGroups ds)) (rw t at h) .0))
-first-below end (d ∷ ds) (suc i) z h = first-below end ds i z (go (eqb (d .first) 0) h)
-  where
-    go : (b : Bool) → allBelow end (unless b (d .first) (firstGroups ds)) ≡ true → allBelow end (firstGroups ds) ≡ true
-    go true h = h
-    go false h = and-both (ltb (d .first) end) (allBelow end (firstGroups ds)) h .1
 
 -- a sound state with a queued group
 module _ (s : State) (f : Sound s) (some : 1 ≤ s .queued) where

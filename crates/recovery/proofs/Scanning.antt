@@ -11,11 +11,13 @@ use lib.ListN.{length, getD, set}
 use lib.Seq.{getD-set-same, getD-set-other}
 use Rattle.area.specs.Part.{part}
 use Rattle.area.proofs.Parts.{length-part}
+use Rattle.block.specs.Legal.{slotOf}
 use Rattle.block.specs.Slot.{judged, blockAt}
 use Rattle.block.specs.declared.Block.{Block}
 use Rattle.block.specs.declared.Kind.{Kind}
 use Rattle.block.specs.declared.Judged.{Judged}
 use Rattle.block.specs.declared.Judged.the-variants.{Unused, Damaged, Valid}
+use Rattle.promises.specs.Areas.{slotBytes, slotsIn}
 use Rattle.promises.specs.Blocks.{Slot, slotIn, slotAt, slotsFrom}
 use Rattle.promises.specs.Newest.{sequenceIn, isUnused, newest, allUnused}
 use Rattle.recovery.specs.Log.{bytesOf, headerOf}
@@ -35,14 +37,29 @@ slot-next s n h =
 
 -- ---- a slot lies in the log
 
+pub slot-within : (n slot : ℕ) → slot < n / 512 → slot * 512 + 512 ≤ n
+slot-within n slot h = omega arith
+
+pub length-slot-bytes : (log : List ℕ) (slot : ℕ) → slot < length log / 512 → length (slotBytes log slot) ≡ 512
+length-slot-bytes log slot h = length-part log (slot * 512) 512 (slot-within (length log) slot h)
+
+-- the slot that a sequence goes to is one of the slots
+pub slot-below : (n s : ℕ) → 512 ≤ n → s % (n / 512) < n / 512
+slot-below n s h = let k : 0 < n / 512 = omega arith in mod-lt s k
+
 pub slot-in : (n s : ℕ) → 512 ≤ n → (s % (n / 512)) * 512 + 512 ≤ n
-slot-in n s h =
-    let k : 0 < n / 512 = omega arith in
-    let l : s % (n / 512) < n / 512 = mod-lt s k in
-    omega arith
+slot-in n s h = slot-within n (s % (n / 512)) (slot-below n s h)
 
 pub length-slot : (log : List ℕ) (s : ℕ) → 512 ≤ length log → length (bytesOf log s) ≡ 512
-length-slot log s h = length-part log ((s % (length log / 512)) * 512) 512 (slot-in (length log) s h)
+length-slot log s h = length-slot-bytes log (s % (length log / 512)) (slot-below (length log) s h)
+
+-- a slot carried beside a sequence: one of the slots, and its bytes are those of the sequence
+pub slot-one : (n s slot : ℕ) → 512 ≤ n → slot ≡ slotOf (slotsIn n) s → slot < slotsIn n
+slot-one n s slot h e = subst (λ (k : ℕ). k < slotsIn n) (sym e) (slot-below n s h)
+
+pub bytes-are : (log : List ℕ) (s slot : ℕ) (bytes : List ℕ) → bytes ≡ slotBytes log slot → slot ≡ slotOf (slotsIn (length log)) s
+    → bytes ≡ bytesOf log s
+bytes-are log s slot bytes e f = e ∙ ap (slotBytes log) f
 
 pub header-is : (log : List ℕ) (s : ℕ) (bytes : List ℕ) (b : Block) → bytes ≡ bytesOf log s → b ≡ blockAt bytes → b ≡ headerOf log s
 unfolding headerOf

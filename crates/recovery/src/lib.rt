@@ -11,7 +11,7 @@ ghost use lib.ListN.{length};
 ghost use lib.Dec.{eqb, ltb, leb};
 ghost use Rattle.block.specs.Sizes.{blockSize, pageSize, sequenceEnd};
 ghost use Rattle.block.specs.Legal.{slotOf};
-ghost use Rattle.promises.specs.Areas.{pagesIn};
+ghost use Rattle.promises.specs.Areas.{slotBytes, slotsIn, pagesIn};
 ghost use Rattle.table.specs.Table.{Applies, AppliesAll};
 ghost use Rattle.table.specs.Seats.{seated};
 ghost use Rattle.recovery.specs.Log.{bytesOf, headerOf, blockOf, updateOf, updatesFrom, Placed, Legal};
@@ -101,7 +101,7 @@ pub fn judge_all(log: &[u8], pages: usize, sequences: &mut [u64]) -> Scan
 
 // The slot that comes after a slot of so many: where a sequence goes to the one, the next goes to the other.
 fn slot_after(slot: usize, slots: usize) -> usize
-    requires { ⌜ (slot < slots) × (slots ≤ 1024) ⌝ }
+    requires { ⌜ slot < slots ⌝ }
     ensures { λ r. ⌜ (r < slots) × ((s : ℕ) → slot ≡ slotOf slots s → r ≡ slotOf slots (s + 1)) ⌝ }
 {
     if slot + 1 == slots {
@@ -138,6 +138,15 @@ fn slot_of(log: &[u8], s: u64) -> &[u8]
     &log[at..at + Block::SIZE]
 }
 
+// The bytes of a slot: a part of the log.
+fn slot_bytes(log: &[u8], slot: usize) -> &[u8]
+    requires { ⌜ slot < slotsIn (length (now log)) ⌝ }
+    ensures { λ r. ⌜ (now r ≡ slotBytes (now (log .entry)) slot) × (length (now r) ≡ blockSize) ⌝ }
+{
+    let at = slot * Block::SIZE;
+    &log[at..at + Block::SIZE]
+}
+
 // The header in the slot that a sequence goes to.
 pub fn header(log: &[u8], s: u64) -> Block
     requires { ⌜ blockSize ≤ length (now log) ⌝ }
@@ -146,20 +155,21 @@ pub fn header(log: &[u8], s: u64) -> Block
     block::header(slot_of(log, s))
 }
 
-// The stored update of a sequence goes to its page's frame. False: there is no frame for the page, and nothing changes.
+// The stored update of a sequence, in its slot, goes to its page's frame. False: there is no frame for the page, and nothing changes.
 fn apply_stored(
     seats: &mut [u64],
     log: &[u8],
     home: &[u8],
     frames: &mut [u8],
     s: u64,
+    slot: usize,
     group: u64,
 ) -> bool
-    requires { ⌜ (length (now seats) ≤ 32) × (length (now frames) ≡ length (now seats) * pageSize) × (blockSize ≤ length (now log)) × (pagesIn (length (now home)) ≤ 4096) × (1 ≤ group) × (group < sequenceEnd) × Placed (pagesIn (length (now home))) (headerOf (now log) s .kind) ⌝ }
+    requires { ⌜ (length (now seats) ≤ 32) × (length (now frames) ≡ length (now seats) * pageSize) × (blockSize ≤ length (now log)) × (pagesIn (length (now home)) ≤ 4096) × (1 ≤ group) × (group < sequenceEnd) × Placed (pagesIn (length (now home))) (headerOf (now log) s .kind) × (slot ≡ slotOf (slotsIn (length (now log))) s) ⌝ }
     ensures { λ r. ⌜ Applies (seated false (now (seats .entry))) (now (home .entry)) (now (frames .entry)) (updateOf (now (log .entry)) s) group (seated (not r) (now (seats .exit))) (now (frames .exit)) ⌝ }
 {
-    let slot = slot_of(log, s);
-    let block = block::header(slot);
+    let stored = slot_bytes(log, slot);
+    let block = block::header(stored);
     let kind = block.kind;
     match kind {
         Kind::Update {
@@ -168,7 +178,7 @@ fn apply_stored(
             offset,
             length,
         } => {
-            let bytes = block::new_bytes(slot, length);
+            let bytes = block::new_bytes(stored, length);
             table::seats::apply(seats, home, frames, page, offset, bytes, group)
         }
         Kind::Commit { updates } => true,
@@ -188,11 +198,14 @@ fn apply_group(
     requires { ⌜ (length (now seats) ≤ 32) × (length (now frames) ≡ length (now seats) * pageSize) × (blockSize ≤ length (now log)) × (pagesIn (length (now home)) ≤ 4096) × (1 ≤ start) × (start + count ≤ sequenceEnd) × ((i : ℕ) → i < count → Placed (pagesIn (length (now home))) (headerOf (now log) (start + i) .kind)) ⌝ }
     ensures { λ r. ⌜ AppliesAll (seated false (now (seats .entry))) (now (home .entry)) (now (frames .entry)) (updatesFrom (now (log .entry)) start count) start (seated (not r) (now (seats .exit))) (now (frames .exit)) ⌝ }
 {
+    let slots = log.len() / Block::SIZE;
     let mut fits = true;
     let mut i = 0;
+    let mut slot = (start % slots as u64) as usize;
     while fits & (i < count) {
-        fits = apply_stored(seats, log, home, frames, start + i as u64, start);
+        fits = apply_stored(seats, log, home, frames, start + i as u64, slot, start);
         i += 1;
+        slot = slot_after(slot, slots);
     }
     fits
 }
@@ -295,7 +308,7 @@ fn walk_commit(
     w
 }
 
-// The block of a sequence is walked over. Nothing happens once refused.
+// The block of a sequence, in its slot, is walked over. Nothing happens once refused.
 fn turn(
     stage: Stage,
     seats: &mut [u64],
@@ -303,14 +316,16 @@ fn turn(
     home: &[u8],
     frames: &mut [u8],
     s: u64,
+    slot: usize,
 ) -> Stage
-    requires { ⌜ (length (now seats) ≤ 32) × (length (now frames) ≡ length (now seats) * pageSize) × (blockSize ≤ length (now log)) × (pagesIn (length (now home)) ≤ 4096) × (s < sequenceEnd) × Legal (now log) (now home) s × (stage .refusal ≡ 0 → Ready (now log) (now home) s (walkOf stage (now seats))) ⌝ }
+    requires { ⌜ (length (now seats) ≤ 32) × (length (now frames) ≡ length (now seats) * pageSize) × (blockSize ≤ length (now log)) × (pagesIn (length (now home)) ≤ 4096) × (s < sequenceEnd) × (slot ≡ slotOf (slotsIn (length (now log))) s) × Legal (now log) (now home) s × (stage .refusal ≡ 0 → Ready (now log) (now home) s (walkOf stage (now seats))) ⌝ }
     ensures { λ r. ⌜ Turns (now (log .entry)) (now (home .entry)) s (blockOf (now (log .entry)) s .kind) (blockOf (now (log .entry)) s .ticket) (walkOf stage (now (seats .entry))) (now (frames .entry)) (walkOf r (now (seats .exit))) (now (frames .exit)) ⌝ }
 {
     if stage.refusal != 0 {
         return stage;
     }
-    let block = header(log, s);
+    let stored = slot_bytes(log, slot);
+    let block = block::header(stored);
     let kind = block.kind;
     match kind {
         Kind::Update {
@@ -333,7 +348,7 @@ fn turn(
     }
 }
 
-// The blocks from first to last are walked over.
+// The blocks from first to last are walked over. The slot goes round beside the sequence.
 pub fn walk_all(
     stage: Stage,
     seats: &mut [u64],
@@ -346,11 +361,14 @@ pub fn walk_all(
     requires { ⌜ (length (now seats) ≤ 32) × (length (now frames) ≡ length (now seats) * pageSize) × (blockSize ≤ length (now log)) × (pagesIn (length (now home)) ≤ 4096) × (first ≤ last + 1) × (last < sequenceEnd) × ((s : ℕ) → first ≤ s → s ≤ last → Legal (now log) (now home) s) × (stage .refusal ≡ 0 → Ready (now log) (now home) first (walkOf stage (now seats))) ⌝ }
     ensures { λ r. ⌜ Walks (now (log .entry)) (now (home .entry)) first last (walkOf stage (now (seats .entry))) (now (frames .entry)) (walkOf r (now (seats .exit))) (now (frames .exit)) ⌝ }
 {
+    let slots = log.len() / Block::SIZE;
     let mut w = stage;
     let mut s = first;
+    let mut slot = (first % slots as u64) as usize;
     while s <= last {
-        w = turn(w, seats, log, home, frames, s);
+        w = turn(w, seats, log, home, frames, s, slot);
         s += 1;
+        slot = slot_after(slot, slots);
     }
     w
 }

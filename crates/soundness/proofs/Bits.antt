@@ -1,7 +1,7 @@
 -- Marks in the bits of a number: bit b of a word is the last bit of the word over 2^b, and to set one that isn't set adds 2^b.
 -- Assumes nothing.
 use Prim.Native.Nat.{ℕ, zero, suc, _+_, _-_, _*_, _/_, _%_, _^_, _<_}
-use mathlib.Core.Path.{_≡_, refl, sym, ap, _∙_}
+use mathlib.Core.Path.{_≡_, sym, ap, _∙_}
 use native.Mathlib.Omega.{arith}
 use Rattle.area.proofs.Parts.{either}
 use native.Mathlib.Nat.{mul-assoc, pow-succ', one-le-pow, add-div-right, add-mul-div-left, zero-div, div-div-eq-div-mul}

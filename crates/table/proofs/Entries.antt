@@ -5,13 +5,14 @@ use mathlib.Core.Bool.{Bool, true, false, cond, not, _&&_, _||_}
 use mathlib.Core.List.{List, [], _∷_}
 use Prim.Native.Nat.{ℕ, zero, suc, _≤_, _<_}
 use native.Mathlib.Omega.{arith}
-use lib.Dec.{eqb}
+use lib.Dec.{eqb, ltb}
 use lib.ListN.{length, take, drop, getD, set}
-use borrow.Author.Tests.{eqb-false, eq-eqb, ne-eqb, not-true}
+use borrow.Author.Tests.{eqb-true, eqb-false, eq-eqb, ne-eqb, ltb-true, not-true}
+use Rattle.block.proofs.Tests.{by-cases}
 use Rattle.promises.specs.declared.Dirty.{Dirty}
 use Rattle.promises.specs.Contents.{unless}
 use Rattle.promises.specs.Sums.{firstGroups}
-use Rattle.promises.specs.Sound.{member, distinct, dirtyNumbers}
+use Rattle.promises.specs.Sound.{member, distinct, allBelow, dirtyNumbers}
 use Rattle.promises.proofs.Soundness.{and-both, and2}
 use Rattle.promises.proofs.Table.{or-false}
 use Rattle.table.specs.Search.{free, isFree, isOf, placeOf}
@@ -174,3 +175,17 @@ free-groups zero zero = refl
 free-groups zero (suc k) = refl
 free-groups (suc n) zero = free-groups n zero
 free-groups (suc n) (suc k) = free-groups n k
+
+-- first groups below an end: a free frame's is 0
+pub first-below : (end : ℕ) (ds : List Dirty) (i : ℕ) → 0 < end → allBelow end (firstGroups ds) ≡ true → getD ds i free .first < end
+unfolding firstGroups
+first-below end [] i z h = z
+first-below end (d ∷ ds) zero z h =
+    by-cases (eqb (d .first) 0)
+    (λ t. let e : d .first ≡ 0 = eqb-true (d .first) 0 t in omega arith)
+    (λ t. ltb-true _ _ (and-both (ltb (d .first) end) (allBelow end (firstGroups ds)) (rw t at h) .0))
+first-below end (d ∷ ds) (suc i) z h = first-below end ds i z (go (eqb (d .first) 0) h)
+  where
+    go : (b : Bool) → allBelow end (unless b (d .first) (firstGroups ds)) ≡ true → allBelow end (firstGroups ds) ≡ true
+    go true h = h
+    go false h = and-both (ltb (d .first) end) (allBelow end (firstGroups ds)) h .1

@@ -2,7 +2,6 @@
 -- Assumes nothing.
 use mathlib.Core.Path.{_≡_, sym, _∙_}
 use lib.ListN.{length}
-use Rattle.promises.specs.End.{endRefusal}
 use Rattle.promises.proofs.Changes.{end-met}
 use Rattle.queueing.proofs.Refusals.{Closable, closable, end-refused}
 use borrow.Author.Needs.{needs}

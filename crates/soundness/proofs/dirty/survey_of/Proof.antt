@@ -1,7 +1,7 @@
 -- `dirty::survey_of` meets its contract. The loops' invariant: what is told so far, and what is left, make the whole.
 -- Assumes nothing.
 use Prim.Native.Nat.{_-_, _+_, _%_, _≤_, _<_}
-use mathlib.Core.Path.{_≡_, refl, sym, ap, _∙_, subst}
+use mathlib.Core.Path.{_≡_, refl, sym, ap, _∙_}
 use mathlib.Core.Logic.{⊎-elim}
 use lib.ListN.{length, drop, length-set}
 use Rattle.promises.specs.Sums.{firstGroups, smallest}
