@@ -9,14 +9,12 @@ use native.Mathlib.Omega.{arith}
 use lib.Dec.{eqb, ltb, leb}
 use lib.ListN.{length, take, drop, getD, set, replicate, length-append, length-map, length-set, length-replicate, replicate-append-replicate, drop-of-length-le, List·getD-append, List·getD-map}
 use lib.Seq.{drop-cons, take-at, drop-at, set-at, take-suc, take-length, length-take-le, set-append-left}
-use borrow.Author.Tests.{eq-eqb, ne-eqb, eqb-true, eqb-false, leb-true, leb-false, not-true}
+use borrow.Author.Tests.{eq-eqb, ne-eqb, eqb-true, eqb-false, leb-true, leb-false}
 use Rattle.area.specs.Part.{splice}
 use Rattle.block.proofs.Tests.{by-cases}
 use Rattle.promises.specs.declared.Dirty.{Dirty}
 use Rattle.promises.specs.Areas.{pageAt}
 use Rattle.promises.specs.Sums.{firstGroups, smallest}
-use Rattle.promises.proofs.Soundness.{and-both}
-use Rattle.promises.proofs.History.Sees.{by-eq}
 use Rattle.table.specs.declared.Table.{Table}
 use Rattle.table.specs.Search.{free, isFree, isOf, placeOf, entriesOf, seatOf}
 use Rattle.table.specs.Table.{Enters, Drops, withDirty}
@@ -88,47 +86,6 @@ module _ (test : Dirty → Bool) (seats : List ℕ) (i : ℕ) where
   seek-end h =
       let k : length (map entryIn seats) ≤ i = omega (arith, length-map seats entryIn) in
       rw (drop-of-length-le (map entryIn seats) k)
-
--- past so many that do not pass
-pub seek-past : (test : Dirty → Bool) (seats : List ℕ) (i k : ℕ) → i + k ≤ length seats → ((j : ℕ) → i ≤ j → j < i + k → test (entryIn (getD seats j 0)) ≡ false)
-    → placeOf test (drop i (map entryIn seats)) ≡ k + placeOf test (drop (i + k) (map entryIn seats))
-seek-past test seats i k h none = go k i h none
-  where
-    from : ℕ → ℕ
-    from n = placeOf test (drop n (map entryIn seats))
-
-    go : (k i : ℕ) → i + k ≤ length seats → ((j : ℕ) → i ≤ j → j < i + k → test (entryIn (getD seats j 0)) ≡ false) → from i ≡ k + from (i + k)
-    go zero i h none = let same : i ≡ i + 0 = omega arith in omega (arith, ap from same)
-    go (suc k) i h none =
-        let later : from (i + 1) ≡ k + from (i + 1 + k) = go k (i + 1) (omega arith) (λ j a b. none j (omega arith) (omega arith)) in
-        let here : from i ≡ suc (from (i + 1)) = seek-miss test seats i (omega arith) (none i (omega arith) (omega arith)) in
-        let along : i + 1 + k ≡ i + suc k = omega arith in
-        omega (arith, here, later, ap from along)
-
--- ---- four seats of other pages
-
-other-page : (page seat : ℕ) → not (eqb (seat % 65536) page) ≡ true → isOf page (entryIn seat) ≡ false
-other-page page seat h = seat-of page seat false (ap (λ (b : Bool). leb 65536 seat && b) (not-true _ h) ∙ none (leb 65536 seat))
-  where
-    none : (b : Bool) → (b && false) ≡ false
-    none true = refl
-    none false = refl
-
-pub four-apart : (page : ℕ) (seats : List ℕ) (i : ℕ)
-    → (((not (eqb (getD seats i 0 % 65536) page) && not (eqb (getD seats (i + 1) 0 % 65536) page)) && not (eqb (getD seats (i + 2) 0 % 65536) page))
-    && not (eqb (getD seats (i + 3) 0 % 65536) page)) ≡ true
-    → (j : ℕ) → i ≤ j → j < i + 4 → isOf page (entryIn (getD seats j 0)) ≡ false
-four-apart page seats i h j from to =
-    let last = and-both _ _ h in
-    let third = and-both _ _ (last .0) in
-    let two = and-both _ _ (third .0) in
-    by-eq j i (λ e. at i e (two .0))
-    (λ a. by-eq j (i + 1) (λ e. at (i + 1) e (two .1))
-    (λ b. by-eq j (i + 2) (λ e. at (i + 2) e (third .1))
-    (λ c. let e : j ≡ i + 3 = omega arith in at (i + 3) e (last .1))))
-  where
-    at : (n : ℕ) → j ≡ n → not (eqb (getD seats n 0 % 65536) page) ≡ true → isOf page (entryIn (getD seats j 0)) ≡ false
-    at n e d = ap (λ (m : ℕ). isOf page (entryIn (getD seats m 0))) e ∙ other-page page (getD seats n 0) d
 
 -- ---- the seats as a table
 

@@ -3,61 +3,27 @@
 use block::Block;
 use promises::Dirty;
 ghost use mathlib.Core.Path.{_≡_};
-ghost use mathlib.Core.Bool.{Bool, true, false, not};
+ghost use mathlib.Core.Bool.{Bool, false, not};
 ghost use mathlib.Core.List.{map};
-ghost use Prim.Native.Nat.{ℕ, _+_, _*_, _≤_, _<_};
-ghost use lib.ListN.{length, getD};
+ghost use Prim.Native.Nat.{_+_, _*_, _≤_, _<_};
+ghost use lib.ListN.{length};
 ghost use Rattle.block.specs.Sizes.{pageSize, sequenceEnd};
 ghost use Rattle.promises.specs.Sums.{firstGroups, smallest};
 ghost use Rattle.table.specs.Search.{isFree, isOf, placeOf, seatOf};
 ghost use Rattle.table.specs.Table.{Enters, Applies, Drops};
 ghost use Rattle.table.specs.Seats.{entryIn, dirtyIn, seated};
 
-// The index after four seats of so many, or their count.
-fn after_four(i: usize, count: usize) -> usize
-    requires { ⌜ i ≤ count ⌝ }
-    ensures { λ r. ⌜ (i < count → i < r) × (r ≤ i + 4) × (r ≤ count) ⌝ }
-{
-    if count - i < 4 {
-        return count;
-    }
-    i + 4
-}
-
-// Whether there are four seats from an index on, all of other pages.
-fn four_others(seats: &[u64], i: usize, page: usize) -> bool
-    requires { ⌜ i ≤ length (now seats) ⌝ }
-    ensures { λ r. ⌜ (r ≡ true → (j : ℕ) → i ≤ j → j < i + 4 → isOf page (entryIn (getD (now (seats .entry)) j 0)) ≡ false) ⌝ }
-{
-    if seats.len() - i < 4 {
-        return false;
-    }
-    let one = seats[i];
-    let two = seats[i + 1];
-    let three = seats[i + 2];
-    let four = seats[i + 3];
-    let own = page as u64;
-    (one % 65536 != own) & (two % 65536 != own) & (three % 65536 != own) & (four % 65536 != own)
-}
-
-// The frame that holds a page; the count of frames where none does. Four seats of other pages are passed over at once.
+// The frame that holds a page; the count of frames where none does.
 pub fn frame_of(seats: &[u64], page: usize) -> usize
     ensures { λ r. ⌜ (r ≡ placeOf (isOf page) (map entryIn (now (seats .entry)))) × (r ≤ length (now (seats .entry))) ⌝ }
 {
     let mut i = 0;
     while i < seats.len() {
-        let end = after_four(i, seats.len());
-        if !four_others(seats, i, page) {
-            let mut j = i;
-            while j < end {
-                let seat = seats[j];
-                if (65536 <= seat) & (seat % 65536 == page as u64) {
-                    return j;
-                }
-                j += 1;
-            }
+        let seat = seats[i];
+        if (65536 <= seat) & (seat % 65536 == page as u64) {
+            return i;
         }
-        i = end;
+        i += 1;
     }
     i
 }
