@@ -294,9 +294,10 @@ static const struct image *image_of(const struct frame *frame, enum workload_num
 }
 
 /* Where a workload's stack starts, in bytes below the place of the first round. What a copy costs
- * depends on how the places of its bytes fall into cache lines, and the system starts the stack at
- * another multiple of 16 in every process: so every four rounds go through all four, with the same
- * one for all subjects of a round. */
+ * depends on how the places of its bytes fall into cache lines, and on which other bytes lie a
+ * multiple of 4,096 away; the system starts the stack at another place in every process. So sixteen
+ * rounds go through sixteen places over 4,096 bytes, four for each place in a cache line, with the
+ * same one for all subjects of a round. */
 static size_t stack_offset;
 
 static __attribute__((noinline)) uint64_t run(workload *work, struct frame *frame,
@@ -451,7 +452,7 @@ int main(int argc, char **argv)
 
     /* C is the first in the first round, so that the others can be held to it; then each in turn. */
     for (int round = 0; round < rounds; round++) {
-        stack_offset = 16 * ((size_t)round % 4);
+        stack_offset = 272 * ((size_t)round % 16);
         for (int number = 0; number < WORKLOADS; number++)
             for (size_t turn = 0; turn < SUBJECTS; turn++) {
                 size_t which = (turn + (size_t)round) % SUBJECTS;
