@@ -16,6 +16,7 @@ ghost use Rattle.promises.specs.Areas.{logLength, pageAt, firstHalf, secondHalf
 ghost use Rattle.promises.specs.Sums.{dirtyCount, firstGroups, smallest};
 ghost use Rattle.promises.specs.Sound.{sound};
 ghost use Rattle.soundness.specs.Summed.{Summed, Small};
+ghost use Rattle.soundness.specs.Verdicts.{Judges};
 ghost use Rattle.promises.specs.CleanStep.{thirdRefusal, cleanRefusal, cleanRefusalOf, CleanSteps};
 ghost use Rattle.promises.specs.declared.Cleaning.the-variants.{Second, Third};
 ghost use Rattle.promises.proofs.Changes.{cleaningTo};
@@ -68,7 +69,7 @@ pub fn clean_refusal(
     home: usize,
     frames: usize,
 ) -> u64
-    requires { ⌜ (holds ≡ sound state) × (sound state ≡ true → Summed state sums × Small state sums) ⌝ }
+    requires { ⌜ Judges state (record { sound = holds; sums = sums }) ⌝ }
     ensures { λ r. ⌜ r ≡ cleanRefusal state log home frames ⌝ }
 {
     if !holds {

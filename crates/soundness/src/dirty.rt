@@ -91,7 +91,8 @@ fn named(cleaning: Cleaning, pages: &[u16]) -> bool
     }
 }
 
-// Whether entries that are legal or not are as they have to be, their pages distinct, and a cleaning names one of them.
+// Whether the dirty pages are as they have to be, of whether their entries are legal and of their numbers: distinct, and one of them is
+// the page that a cleaning names.
 pub fn pages_sound(cleaning: Cleaning, legal: bool, pages: &[u16]) -> bool
     ensures { λ r. ⌜ r ≡ legal && distinct (now (pages .entry)) && names cleaning (now (pages .entry)) ⌝ }
 {
