@@ -25,24 +25,16 @@ use Rattle.soundness.proofs.Scans.{firsts-more, firsts-same, firsts-end}
 use Rattle.table.specs.Search.{free, isOf}
 use Rattle.table.proofs.Entries.{own-apart, first-below}
 use Rattle.table.proofs.Scans.{lower, not-lower}
-use Rattle.cleaning.specs.Cleans.{entryAt, rankOf, rankIn, Named}
+use Rattle.cleaning.specs.Cleans.{entryAt, rankIn, Named}
 
 -- ---- ranks
 
 pub rank-free : (named : ℕ) (entry : Dirty) → entry .first ≡ 0 → rankIn named entry ≡ 2 ^ 64 - 1
 rank-free named entry e = simp (eq-eqb _ _ e)
 
-rank-last : (entry : Dirty) → entry .first ≡ 0 → rankOf entry ≡ 2 ^ 64 - 1
-rank-last entry e = simp (eq-eqb _ _ e)
-
-rank-used : (entry : Dirty) → (entry .first ≡ 0 → ⊥) → rankOf entry ≡ entry .first * 65536 + entry .page
-rank-used entry n = simp (ne-eqb _ _ n)
-
 -- where no page is named
-rank-idle : (entry : Dirty) → ((entry .first ≡ 0 → ⊥) → entry .page < 65536) → rankIn 65536 entry ≡ rankOf entry
-rank-idle entry small =
-    by-eq (entry .first) 0 (λ z. rank-free 65536 entry z ∙ sym (rank-last entry z))
-    (λ n. simp (ne-eqb _ _ n, ne-eqb 65536 (entry .page) (λ e. omega (arith, small n))))
+rank-used : (entry : Dirty) → (entry .first ≡ 0 → ⊥) → entry .page < 65536 → rankIn 65536 entry ≡ entry .first * 65536 + entry .page
+rank-used entry n small = simp (ne-eqb _ _ n, ne-eqb 65536 (entry .page) (λ e. omega arith))
 
 -- a frame in use is one of those below a count from which on none is
 used-below : (count : ℕ) (ds : List Dirty) (i : ℕ) → length (firstGroups (drop count ds)) ≡ 0 → (getD ds i free .first ≡ 0 → ⊥) → i < count
@@ -248,28 +240,28 @@ module _ (s : State) (f : Sound s) where
   pub pages-small : (frame : ℕ) → (entryAt s frame .first ≡ 0 → ⊥) → entryAt s frame .page < s .pages
   pages-small frame n = page-at (s .pages) (s .dirty) frame (f .pagesBelow) n
 
+  -- no page is numbered 65,536
+  page-fits : (frame : ℕ) → (entryAt s frame .first ≡ 0 → ⊥) → entryAt s frame .page < 65536
+  page-fits frame n = omega (arith, pages-small frame n, f .pages .1)
+
   pub frames-below : (frame : ℕ) → (entryAt s frame .first ≡ 0 → ⊥) → frame < s .frames
   frames-below frame n = used-below (s .frames) (s .dirty) frame (f .framesBelow) n
 
   -- a rank as low as any other's is that of a frame in use, if any is
   pub first-used : (frame : ℕ) → (dirtyCount s ≡ 0 → ⊥)
-      → ((other : ℕ) → other < length (s .dirty) → rankOf (entryAt s frame) ≤ rankOf (entryAt s other)) → entryAt s frame .first ≡ 0 → ⊥
+      → ((other : ℕ) → other < length (s .dirty) → rankIn 65536 (entryAt s frame) ≤ rankIn 65536 (entryAt s other)) → entryAt s frame .first ≡ 0 → ⊥
   first-used frame some least z = some (none-used (s .dirty) all-free)
     where
       all-free : (i : ℕ) → i < length (s .dirty) → getD (s .dirty) i free .first ≡ 0
       all-free i h =
           by-eq (entryAt s i .first) 0 (λ e. e)
-          (λ n. absurd (omega (arith, least i h, rank-last (entryAt s frame) z, rank-used (entryAt s i) n, firsts-small i, pages-small i n, f .pages .1)))
-
-  -- no page is numbered 65,536
-  pub idle-rank : (frame : ℕ) → rankIn 65536 (entryAt s frame) ≡ rankOf (entryAt s frame)
-  idle-rank frame = rank-idle (entryAt s frame) (λ n. omega (arith, pages-small frame n, f .pages .1))
+          (λ n. absurd (omega (arith, least i h, rank-free 65536 (entryAt s frame) z, rank-used (entryAt s i) n (page-fits i n), firsts-small i, pages-small i n, f .pages .1)))
 
   -- a lower rank is no later first group
-  pub first-least : (frame other : ℕ) → (entryAt s frame .first ≡ 0 → ⊥) → (entryAt s other .first ≡ 0 → ⊥) → rankOf (entryAt s frame) ≤ rankOf (entryAt s other)
+  pub first-least : (frame other : ℕ) → (entryAt s frame .first ≡ 0 → ⊥) → (entryAt s other .first ≡ 0 → ⊥) → rankIn 65536 (entryAt s frame) ≤ rankIn 65536 (entryAt s other)
       → entryAt s frame .first ≤ entryAt s other .first
   first-least frame other n m h =
-      omega (arith, rank-used (entryAt s frame) n, rank-used (entryAt s other) m, pages-small other m, f .pages .1)
+      omega (arith, rank-used (entryAt s frame) n (page-fits frame n), rank-used (entryAt s other) m (page-fits other m), pages-small other m, f .pages .1)
 
   -- ---- the frame of a named page
   pub named-here : (page frame : ℕ) → isOf page (entryAt s frame) ≡ true → Named s page frame

@@ -29,16 +29,16 @@ use Rattle.stepping.specs.Tables.{tableWith, tableOf}
 use Rattle.stepping.proofs.Held.{held-named}
 use Rattle.stepping.proofs.Refused.{numbered}
 use Rattle.cleaning.specs.declared.Change.{Change}
-use Rattle.cleaning.specs.Cleans.{entryAt, rankOf, rankIn, namedIn, TakesFrame, Named, Chosen, Fitting, changed, Cleaned, doneWith, Changes}
+use Rattle.cleaning.specs.Cleans.{entryAt, rankIn, namedIn, TakesFrame, Named, Chosen, Fitting, changed, Cleaned, doneWith, Changes}
 use Rattle.cleaning.proofs.Decision.{Accepted, accepted, block-passed}
-use Rattle.cleaning.proofs.Choosing.{rank-zero, rank-named, dirty-at, first-used, idle-rank, first-least, named-here, pages-small, frames-below, look-frame, look-least}
+use Rattle.cleaning.proofs.Choosing.{rank-zero, rank-named, dirty-at, first-used, first-least, named-here, pages-small, frames-below, look-frame, look-least}
 use Rattle.cleaning.proofs.Storing.{sound-clean}
 
 -- ---- the frame that is cleaned
 
 -- an idle cleaning's is the one that comes first
 chosen-first : (s : State) (frame : ℕ) → Sound s → (dirtyCount s ≡ 0 → ⊥) → s .cleaning ≡ Idle
-    → ((other : ℕ) → other < length (s .dirty) → rankOf (entryAt s frame) ≤ rankOf (entryAt s other)) → Chosen s frame
+    → ((other : ℕ) → other < length (s .dirty) → rankIn 65536 (entryAt s frame) ≤ rankIn 65536 (entryAt s other)) → Chosen s frame
 chosen-first s frame f some e least =
     let used : entryAt s frame .first ≡ 0 → ⊥ = first-used s f frame some least in
     record { below = frames-below s f frame used; used = used; takes = subst (λ (c : Cleaning). TakesFrame c s frame) (sym e) least }
@@ -70,7 +70,7 @@ chosen-least s frame h some least = go (s .cleaning) refl
     go : (c : Cleaning) → s .cleaning ≡ c → Chosen s frame
     go Idle e =
         let low : (other : ℕ) → rankIn 65536 (entryAt s frame) ≤ rankIn 65536 (entryAt s other) = subst (λ (n : ℕ). (other : ℕ) → rankIn n (entryAt s frame) ≤ rankIn n (entryAt s other)) (ap namedIn e) least in
-        chosen-first s frame f some e (λ other l. omega (arith, low other, idle-rank s f frame, idle-rank s f other))
+        chosen-first s frame f some e (λ other l. low other)
     go (First page) e = by-name page (First page) e refl (names-dirty s (First page) h e) (λ p. p)
     go (Second page) e = by-name page (Second page) e refl (names-dirty s (Second page) h e) (λ p. p)
     go (Third page) e = by-name page (Third page) e refl (names-dirty s (Third page) h e) (λ p. p)

@@ -26,11 +26,7 @@ use Rattle.cleaning.specs.declared.Change.{Change}
 abbrev pub entryAt : State → ℕ → Dirty
 entryAt state frame = getD (state .dirty) frame free
 
--- an entry's place in the order of cleaning: by first group, then by page; a free frame comes last
-abbrev pub rankOf : Dirty → ℕ
-rankOf entry = cond (eqb (entry .first) 0) (2 ^ 64 - 1) (entry .first * 65536 + entry .page)
-
--- the same with the page that a cleaning names before all others
+-- an entry's place in the order of cleaning: the named page first, then by first group and by page; a free frame comes last
 abbrev pub rankIn : ℕ → Dirty → ℕ
 rankIn named entry = cond (eqb (entry .first) 0) (2 ^ 64 - 1) (cond (eqb named (entry .page)) 0 (entry .first * 65536 + entry .page))
 
@@ -43,7 +39,7 @@ namedIn (Third page) = page
 
 -- a named page is in its frame; an idle cleaning takes the frame that comes first
 abbrev pub TakesFrame : Cleaning → State → ℕ → Type 0
-TakesFrame Idle state frame = (other : ℕ) → other < length (state .dirty) → rankOf (entryAt state frame) ≤ rankOf (entryAt state other)
+TakesFrame Idle state frame = (other : ℕ) → other < length (state .dirty) → rankIn (namedIn Idle) (entryAt state frame) ≤ rankIn (namedIn Idle) (entryAt state other)
 TakesFrame (First page) state frame = page ≡ entryAt state frame .page
 TakesFrame (Second page) state frame = page ≡ entryAt state frame .page
 TakesFrame (Third page) state frame = page ≡ entryAt state frame .page

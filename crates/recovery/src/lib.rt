@@ -14,7 +14,7 @@ ghost use Rattle.block.specs.Legal.{slotOf};
 ghost use Rattle.promises.specs.Areas.{slotBytes, slotsIn, pagesIn};
 ghost use Rattle.table.specs.Table.{Applies, AppliesAll};
 ghost use Rattle.table.specs.Seats.{seated};
-ghost use Rattle.recovery.specs.Log.{bytesOf, headerOf, blockOf, updateOf, updatesFrom, Placed, Legal};
+ghost use Rattle.recovery.specs.Log.{headerOf, blockOf, updateOf, updatesFrom, Placed, Legal};
 ghost use Rattle.recovery.specs.Slots.{sequenceOf, isEmpty, Scanned, Lowest};
 ghost use Rattle.recovery.specs.Walking.{
   walkOf,
@@ -128,16 +128,6 @@ pub fn missing(sequences: &[u64], first: u64, last: u64) -> u64
     s
 }
 
-// The bytes of the slot that a sequence goes to: a part of the log.
-fn slot_of(log: &[u8], s: u64) -> &[u8]
-    requires { ⌜ blockSize ≤ length (now log) ⌝ }
-    ensures { λ r. ⌜ (now r ≡ bytesOf (now (log .entry)) s) × (length (now r) ≡ blockSize) ⌝ }
-{
-    let slots = (log.len() / Block::SIZE) as u64;
-    let at = (s % slots) as usize * Block::SIZE;
-    &log[at..at + Block::SIZE]
-}
-
 // The bytes of a slot: a part of the log.
 fn slot_bytes(log: &[u8], slot: usize) -> &[u8]
     requires { ⌜ slot < slotsIn (length (now log)) ⌝ }
@@ -152,7 +142,9 @@ pub fn header(log: &[u8], s: u64) -> Block
     requires { ⌜ blockSize ≤ length (now log) ⌝ }
     ensures { λ r. ⌜ r ≡ headerOf (now (log .entry)) s ⌝ }
 {
-    block::header(slot_of(log, s))
+    let slots = log.len() / Block::SIZE;
+    let slot = (s % slots as u64) as usize;
+    block::header(slot_bytes(log, slot))
 }
 
 // The stored update of a sequence, in its slot, goes to its page's frame. False: there is no frame for the page, and nothing changes.

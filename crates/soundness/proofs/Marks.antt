@@ -3,7 +3,7 @@
 use mathlib.Core.Path.{_≡_, refl, sym, ap, _∙_}
 use mathlib.Core.Bool.{Bool, true, false, not, _||_}
 use mathlib.Core.List.{List, [], _∷_}
-use Prim.Native.Nat.{ℕ, zero, suc, _+_, _-_, _/_, _%_, _^_, _≤_, _<_}
+use Prim.Native.Nat.{ℕ, zero, suc, _+_, _-_, _/_, _%_, _^_, _<_}
 use native.Mathlib.Omega.{arith}
 use native.Mathlib.Nat.{zero-div}
 use lib.Dec.{eqb}
@@ -14,7 +14,6 @@ use Rattle.block.proofs.Tests.{never-both, not-passed}
 use Rattle.promises.specs.Sound.{member, distinct}
 use Rattle.promises.proofs.Soundness.{and-both, and2}
 use Rattle.promises.proofs.History.Sees.{by-eq}
-use Rattle.soundness.proofs.Scans.{from-cons}
 use Rattle.soundness.proofs.Bits.{bit, set-here, set-apart, set-fits}
 
 -- what is left of distinct numbers is distinct
@@ -70,12 +69,6 @@ module _ (seen rest : List ℕ) (n : ℕ) (m : Marked seen rest) (h : n < 4096) 
           by-eq k n
           (λ e. ap (λ (j : ℕ). eqb (mark j (set seen (n / 64) with-it)) 0) e ∙ ap (λ (v : ℕ). eqb v 0) own ∙ sym (rw (eq-eqb k n e)))
           (λ d. ap (λ (v : ℕ). eqb v 0) (others k d) ∙ m .marks k l ∙ ap (λ (t : Bool). not (t || member k rest)) (sym (ne-eqb k n d)))
-
--- one step towards the first number
-pub step-back : (numbers : List ℕ) (i n : ℕ) → 0 < i → i ≤ length numbers → n ≡ getD numbers (i - 1) 0 → drop (i - 1) numbers ≡ n ∷ drop i numbers
-step-back numbers i n p h e =
-    let back : i - 1 + 1 ≡ i = omega arith in
-    from-cons numbers (i - 1) 0 (omega arith) ∙ ap (λ (x : ℕ). x ∷ drop (i - 1 + 1) numbers) (sym e) ∙ ap (λ (j : ℕ). n ∷ drop j numbers) back
 
 module _ (seen numbers : List ℕ) (i j n : ℕ) (m : Marked seen (drop i numbers)) (h : n < 4096) (before : drop j numbers ≡ n ∷ drop i numbers) where
   -- a number that is marked stands twice

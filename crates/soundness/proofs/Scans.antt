@@ -33,10 +33,15 @@ module _ {A : Type 0} where
       rw (add-one, drop-cons (take n l) i d (omega arith), getD-take n l i d h)
 
   -- one step towards the first element
+  pub from-back : (l : List A) (i : ℕ) (d : A) → 0 < i → i ≤ length l → drop (i - 1) l ≡ getD l (i - 1) d ∷ drop i l
+  from-back l i d p h =
+      let back : i - 1 + 1 ≡ i = omega arith in
+      from-cons l (i - 1) d (omega arith) ∙ ap (λ (j : ℕ). getD l (i - 1) d ∷ drop j l) back
+
   pub rest-back : (l : List A) (n i : ℕ) (d : A) → 0 < i → i ≤ n → n ≤ length l → drop (i - 1) (take n l) ≡ getD l (i - 1) d ∷ drop i (take n l)
   rest-back l n i d p h k =
-      let back : i - 1 + 1 ≡ i = omega arith in
-      rest-cons l n (i - 1) d (omega arith) k ∙ ap (λ (j : ℕ). getD l (i - 1) d ∷ drop j (take n l)) back
+      let e : length (take n l) ≡ n = length-take-le n l k in
+      from-back (take n l) i d p (omega arith) ∙ ap (λ (x : A). x ∷ drop i (take n l)) (getD-take n l (i - 1) d (omega arith))
 
   pub rest-end : (l : List A) (n i : ℕ) → n ≤ i → n ≤ length l → drop i (take n l) ≡ []
   rest-end l n i h k =

@@ -2,17 +2,16 @@
 -- Assumes nothing.
 use Prim.Native.Nat.{ℕ, _+_, _≤_}
 use mathlib.Core.Path.{_≡_, refl, sym, ap, subst}
-use mathlib.Core.Bool.{Bool, true, false, not, _&&_, _||_}
+use mathlib.Core.Bool.{Bool, false, not, _&&_, _||_}
 use mathlib.Core.List.{List, _++_}
 use lib.Dec.{eqb}
 use lib.ListN.{length, drop, take, getD}
 use native.Mathlib.Omega.{arith}
 use borrow.Author.Tests.{eqb-true, not-false}
-use Rattle.block.proofs.Tests.{never-both}
 use Rattle.promises.specs.declared.Dirty.{Dirty}
 use Rattle.promises.specs.Sums.{firstGroups, smallest}
 use Rattle.promises.specs.Sound.{dirtyNumbers}
-use Rattle.promises.proofs.Table.{free}
+use Rattle.promises.proofs.Table.{free, or-false}
 use Rattle.soundness.specs.Tests.{entriesLegal}
 use Rattle.soundness.proofs.Scans.{firsts-same, oldest-same, legal-same, gathered-same}
 
@@ -65,10 +64,6 @@ told-moved pages frames next own dirty list list′ count count′ low low′ le
     (subst (λ (x : ℕ). Told pages frames next own dirty list count low legal x) e t))))
 
 -- ---- four free frames
-
-or-false : (p q : Bool) → (p || q) ≡ false → (p ≡ false) × (q ≡ false)
-or-false true q h = absurd (never-both true refl h)
-or-false false q h = (refl, h)
 
 pub all-free : (a b c d : ℕ) → (((not (eqb a 0) || not (eqb b 0)) || not (eqb c 0)) || not (eqb d 0)) ≡ false → (a ≡ 0) × (b ≡ 0) × (c ≡ 0) × (d ≡ 0)
 all-free a b c d h =

@@ -3,10 +3,12 @@
 use Prim.Native.Nat.{ℕ, _+_, _-_, _/_, _%_, _≤_}
 use mathlib.Core.Path.{_≡_, sym, ap, _∙_, subst}
 use mathlib.Core.Bool.{true}
+use mathlib.Core.List.{_∷_}
 use lib.ListN.{length, drop, getD, set}
 use lib.Seq.{drop-length}
 use Rattle.promises.specs.Sound.{distinct}
-use Rattle.soundness.proofs.Marks.{Marked, marked-none, step-back, marked-twice, marked-once, marked-on}
+use Rattle.soundness.proofs.Scans.{from-back}
+use Rattle.soundness.proofs.Marks.{Marked, marked-none, marked-twice, marked-once, marked-on}
 use Rattle.soundness.proofs.Bits.{set-fits, shifted}
 use borrow.Author.Needs.{needs}
 use native.Mathlib.Omega.{arith}
@@ -56,7 +58,7 @@ returns-2 c =
     let numbers = (c .before .before .before .before .before .before .before) .args .numbers .now in
     let at = (c .before .before .before .before .before) .loop in
     let number = (c .before .before) .field in
-    let before = step-back numbers (at .i) (number .result) (omega arith) (at .inv .0) (number .ensures) in
+    let before = from-back numbers (at .i) 0 (omega arith) (at .inv .0) ∙ ap (λ (n : ℕ). n ∷ drop (at .i) numbers) (sym (number .ensures)) in
     marked-twice (at .seen) numbers (at .i) (at .i - 1) (number .result) (at .inv .2) (omega arith) before (c .if2 .taken)
 
 shl-seen : tie.Need-shl-seen Inv-loop μ-loop
@@ -82,7 +84,7 @@ loop-again c =
     let numbers = (c .before .before .before .before .before .before .before) .args .numbers .now in
     let at = (c .before .before .before .before .before) .loop in
     let number = (c .before .before) .field in
-    let before = step-back numbers (at .i) (number .result) (omega arith) (at .inv .0) (number .ensures) in (
+    let before = from-back numbers (at .i) 0 (omega arith) (at .inv .0) ∙ ap (λ (n : ℕ). n ∷ drop (at .i) numbers) (sym (number .ensures)) in (
       omega arith,
       marked-once (at .seen) numbers (at .i) (at .i - 1) (number .result) (at .inv .2) (omega arith) before (c .if2 .left) (at .inv .1),
       subst (λ (power : ℕ). Marked (set (at .seen) (number .result / 64) (getD (at .seen) (number .result / 64) 0 + power)) (drop (at .i - 1) numbers)) (sym (shifted (number .result % 64) (omega arith)))
