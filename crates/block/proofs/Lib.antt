@@ -3,6 +3,7 @@ pub mod Numbers
 pub mod Tests
 pub mod Sums
 pub mod Indexed
+pub mod Lanes
 pub mod Stores
 pub mod Rules
 pub mod Places

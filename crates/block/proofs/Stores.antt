@@ -1,4 +1,4 @@
--- Numbers stored and read byte by byte, the header number by number, and a block built up from zeros.
+-- Numbers stored and read byte by byte, the header number by number, a block built up from zeros, and its check copied.
 -- Assumes nothing.
 use mathlib.Core.Path.{_≡_, refl, sym, ap, ap₂, _∙_}
 use mathlib.Core.List.{List, [], _∷_, _++_, append-nil, append-assoc}
@@ -6,8 +6,8 @@ use Prim.Native.Nat.{ℕ, zero, suc, _+_, _*_, _-_, _/_, _%_, _^_, _≤_, _<_}
 use native.Mathlib.Omega.{arith}
 use native.Mathlib.Nat.{pow-succ', pow-le-pow-right}
 use native.Mathlib.Numerals.{add-one}
-use lib.ListN.{length, set, getD, take, drop, replicate, length-append, length-replicate, replicate-append-replicate, drop-of-length-le}
-use lib.Seq.{sets, sets-eq, take-at, drop-at, drop-cons}
+use lib.ListN.{length, set, getD, drop, replicate, length-append, length-replicate, replicate-append-replicate, drop-of-length-le}
+use lib.Seq.{sets, sets-eq, take-at, drop-at, drop-cons, take-all}
 use Rattle.area.specs.Part.{part, splice}
 use Rattle.area.proofs.Parts.{length-part, part-append}
 use Rattle.block.specs.Sizes.{blockSize, newBytesMost, headerSize, bodySize}
@@ -155,19 +155,6 @@ unfolding body
 body-stored block new h =
     filled blockSize headerSize (header block) new (newBytesMost - length new) 4 (length-header block) (omega arith) (omega arith)
 
--- the bytes up to the end of the new ones, and zeros: all that the check sums
-pub body-front : (block : Block) (new : List ℕ) → length new ≤ newBytesMost
-    → take (headerSize + length new) (body block new ++ replicate 4 0) ++ replicate (bodySize - (headerSize + length new)) 0 ≡ body block new
-unfolding body
-body-front block new h =
-    let front = header block ++ new in
-    let zeros : List ℕ = replicate (newBytesMost - length new) 0 in
-    let n : length front ≡ headerSize + length new = simp (length-append, length-header) in
-    let k : bodySize - (headerSize + length new) ≡ newBytesMost - length new = omega arith in
-    ap (λ (l : List ℕ). take (headerSize + length new) l ++ replicate (bodySize - (headerSize + length new)) 0) (append-assoc front zeros (replicate 4 0))
-    ∙ ap (λ (l : List ℕ). l ++ replicate (bodySize - (headerSize + length new)) 0) (take-at front (zeros ++ replicate 4 0) (headerSize + length new) n)
-    ∙ ap (λ (i : ℕ). front ++ replicate i 0) k
-
 -- and the check stored over the four zeros
 pub layout-stored : (block : Block) (new : List ℕ) (a b : ℕ) → length new ≤ newBytesMost
     → a ≡ checkA modulus (body block new) → b ≡ checkB modulus (body block new)
@@ -187,3 +174,16 @@ layout-stored block new a b h p q =
         ∙ ap (λ (l : List ℕ). l ++ (toBytes 2 a ++ toBytes 2 b) ++ drop (508 + length (toBytes 2 a ++ toBytes 2 b)) (bytes ++ replicate 4 0)) (take-at bytes (replicate 4 0) 508 e)
         ∙ ap (λ (l : List ℕ). bytes ++ (toBytes 2 a ++ toBytes 2 b) ++ l) (drop-of-length-le (bytes ++ replicate 4 0) {i = 508 + length (toBytes 2 a ++ toBytes 2 b)} (omega arith))
         ∙ append-nil (bytes ++ (toBytes 2 a ++ toBytes 2 b))
+
+-- the check copied to a slot that holds all the rest
+pub check-copied : (block : Block) (new : List ℕ) → length new ≤ newBytesMost
+    → splice (body block new ++ replicate 4 0) bodySize 4 (part (layout block new) bodySize 4) ≡ layout block new
+unfolding layout check part splice
+check-copied block new h =
+    let bytes = body block new in
+    let a = toBytes 2 (checkA modulus bytes) in
+    let b = toBytes 2 (checkB modulus bytes) in
+    let n : length bytes ≡ bodySize = length-body block new h in
+    let m : length (a ++ b) ≤ 4 = simp (length-append, length-toBytes) (omega arith) in
+    rw (drop-at bytes (a ++ b) bodySize n, take-all 4 (a ++ b) m, take-at bytes (replicate 4 0) bodySize n, drop-at bytes (replicate 4 0) bodySize n)
+    (ap (λ (l : List ℕ). bytes ++ l) (append-nil (a ++ b)))

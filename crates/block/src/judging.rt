@@ -1,4 +1,4 @@
-// Judging a slot: its bytes are summed once, and no second block is built.
+// Judging a slot: its first 508 bytes are summed once, and no second block is built.
 use crate::Block;
 use crate::Fields;
 use crate::Kind;
@@ -170,9 +170,9 @@ fn laid_out(slot: &[u8], block: Block, count: usize) -> bool
     let told = same_fields(fields_at(slot), writing::fields_of(kind));
     let reserved = (slot[17] == 0) & (slot[26] == 0) & (slot[27] == 0);
     let end = writing::HEADER + count;
-    let padding = blank(&slot[end..writing::BODY]);
-    let sums = check::check_of(&slot[..end], writing::BODY - end);
+    let sums = check::check_of(&slot[..writing::BODY]);
     let checked = (number::get_pair(slot, 508) == sums.a) & (number::get_pair(slot, 510) == sums.b);
+    let padding = blank(&slot[end..writing::BODY]);
     told & reserved & padding & checked
 }
 

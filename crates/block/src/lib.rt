@@ -131,8 +131,7 @@ pub fn write(slot: &mut [u8], block: Block, new: &[u8])
     requires { ⌜ (length (now slot) ≡ blockSize) × (length (now new) ≤ newBytesMost) ⌝ }
     ensures { λ _. ⌜ now (slot .exit) ≡ layout block (now (new .entry)) ⌝ }
 {
-    let b = writing::built(block, new);
-    area::copy(slot, &b);
+    writing::store(slot, block, new);
 }
 
 // What slot number place of a log of so many slots holds, for a home of so many pages.

@@ -8,7 +8,7 @@ ghost use mathlib.Core.Path.{_≡_};
 ghost use Prim.Native.Nat.{_≤_};
 ghost use lib.ListN.{length};
 ghost use lib.Seq.{sets};
-ghost use Rattle.block.specs.Sizes.{newBytesMost};
+ghost use Rattle.block.specs.Sizes.{blockSize, newBytesMost};
 ghost use Rattle.block.specs.Kind.{fieldsOf};
 ghost use Rattle.block.specs.Layout.{middle, header, layout};
 
@@ -75,17 +75,19 @@ fn put_header(b: &mut [u8; 512], block: Block)
     number::put(b, 28, 8, block.ticket);
 }
 
-// The 512 bytes of a block: zeros, then header, new bytes and check.
-pub fn built(block: Block, new: &[u8]) -> [u8; 512]
-    requires { ⌜ length (now new) ≤ newBytesMost ⌝ }
-    ensures { λ r. ⌜ r ≡ layout block (now (new .entry)) ⌝ }
+// Stores a block in its slot. The array is built up from zeros: header, new bytes and, once these are in the slot, their check. The check
+// is taken of the slot, where a load finds its bytes in one piece; those of the array were stored just before, number by number.
+pub fn store(slot: &mut [u8], block: Block, new: &[u8])
+    requires { ⌜ (length (now slot) ≡ blockSize) × (length (now new) ≤ newBytesMost) ⌝ }
+    ensures { λ _. ⌜ now (slot .exit) ≡ layout block (now (new .entry)) ⌝ }
 {
     let mut b = [0; Block::SIZE];
     put_header(&mut b, block);
     let end = HEADER + new.len();
     area::copy(&mut b[HEADER..end], new);
-    let sums = check::check_of(&b[..end], BODY - end);
+    area::copy(slot, &b);
+    let sums = check::check_of(&slot[..BODY]);
     number::put(&mut b, 508, 2, sums.a);
     number::put(&mut b, 510, 2, sums.b);
-    b
+    area::copy_part(slot, BODY, &b, BODY, 4);
 }

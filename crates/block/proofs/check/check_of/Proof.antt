@@ -1,99 +1,101 @@
--- `check::check_of` meets its contract. The loop's invariant: what a and b lack of the two sums is in the bytes left, and neither is
--- too great for 64 bits.
+-- `check::check_of` meets its contract: the rows are four zeros and all 508 bytes.
 -- Assumes nothing.
-use Prim.Native.Nat.{ℕ, _+_, _*_, _-_, _≤_, _<_}
-use mathlib.Core.Path.{_≡_}
-use lib.ListN.{length, getD, drop}
-use Rattle.block.specs.Check.{plain, weighted, modulus}
-use Rattle.block.proofs.Sums.{plain-step, weighted-step, turn, plain-end, weighted-end}
+use Prim.Native.Nat.{ℕ, _%_, _≤_}
+use mathlib.Core.Path.{_≡_, sym, ap, _∙_}
+use mathlib.Core.List.{List, [], _∷_, _++_, append-nil}
+use lib.ListN.{length, take, drop, length-take, length-drop, take-append-drop}
+use lib.Seq.{length-take-le, take-all}
+use Rattle.block.specs.Sizes.{bodySize}
+use Rattle.block.specs.Check.{plain, weighted, checkA, checkB, modulus}
+use Rattle.block.proofs.Sums.{plain-front, weighted-front}
 use borrow.Author.Needs.{needs}
-use native.Mathlib.Nat.{mul-le-mul}
 use native.Mathlib.Omega.{arith}
 use Rattle.block.proofs.check.check_of.Statement.{statement}
 use Rattle.block.proofs.check.check_of.Tie as tie
 
-abbrev Inv-loop : tie.InvT-loop
-Inv-loop bytes zeros a₀ b₀ i₀ a b i =
-    (i ≤ length bytes)
-    × (a ≤ 255 * i)
-    × (b ≤ 129540 * i)
-    × (plain bytes ≡ a + plain (drop i bytes))
-    × (weighted bytes ≡ b + (length bytes - i) * a + weighted (drop i bytes))
+-- the first 28 bytes and the others are all
+whole : (body front : List ℕ) → length body ≡ bodySize → front ≡ take 28 body → front ++ [] ++ take 480 (drop 28 body) ≡ body
+whole body front long e =
+    let few : length (drop 28 body) ≤ 480 = simp length-drop (omega arith) in
+    rw (append-nil front, e, take-all 480 (drop 28 body) few) (take-append-drop 28 body)
 
-abbrev μ-loop : tie.MeasureT-loop
-μ-loop bytes zeros a₀ b₀ i₀ a b i = length bytes - i
+-- 28 bytes behind the zeros
+front-long : (body front : List ℕ) → length body ≡ bodySize → front ≡ take 28 body → length (front ++ []) ≡ 28
+front-long body front long e = rw (append-nil front, e) (length-take-le 28 body (omega arith))
 
-loop-holds : tie.Need-loop-holds Inv-loop μ-loop
-loop-holds c = search needs
+sub-copy : tie.Need-sub-copy
+sub-copy c = search needs
 
-shared-slice-read-byte : tie.Need-shared-slice-read-byte Inv-loop μ-loop
-shared-slice-read-byte c = search needs
+part-first-start : tie.Need-part-first-start
+part-first-start c = search needs
 
-cast-byte : tie.Need-cast-byte Inv-loop μ-loop
-cast-byte c = omega (arith, c .shared-slice-known .given (c .before .before .loop .i))
+part-first-end : tie.Need-part-first-end
+part-first-end c = search needs
 
-add-a : tie.Need-add-a Inv-loop μ-loop
-add-a c = omega (arith, c .shared-slice-known .given (c .before .before .loop .i))
+slice-aggregate-copy : tie.Need-slice-aggregate-copy
+slice-aggregate-copy c = sym (length-take-le 28 ((c .before .before .before) .args .body .now) (omega arith))
 
-add-b : tie.Need-add-b Inv-loop μ-loop
-add-b c = omega (arith, c .shared-slice-known .given (c .before .before .loop .i))
+copy-requires : tie.Need-copy-requires
+copy-requires c κs = sym (length-take-le 28 ((c .before .before .before) .args .body .now) (omega arith))
 
-add-i : tie.Need-add-i Inv-loop μ-loop
-add-i c = search needs
+slice-aggregate-rows : tie.Need-slice-aggregate-rows
+slice-aggregate-rows c =
+    let n = front-long ((c .before .before .before .before .before .before) .args .body .now) ((c .before .before) .copy .last .0) ((c .before .before .before .before .before .before) .pre) ((c .before .before) .copy .ensures) in omega (arith, n)
 
-loop-less : tie.Need-loop-less Inv-loop μ-loop
-loop-less c = search needs
+sub-rows : tie.Need-sub-rows
+sub-rows c = search needs
 
-loop-again : tie.Need-loop-again Inv-loop μ-loop
-loop-again c =
-    let l = c .before .before .loop in
-    let bytes = c .before .before .before .args .bytes .now in
-    let i = l .i in
-    let h : i < length bytes = c .before .loop-test .taken in
-    let byte = c .shared-slice-known .given i in
-    let p = plain-step bytes i h in (
-      omega arith,
-      omega (arith, byte),
-      omega (arith, byte),
-      omega (arith, p),
-      turn (length bytes) i (l .a) (getD bytes i 0) (l .b) (weighted (drop i bytes)) (weighted (drop (i + 1) bytes)) (weighted bytes) h
-          (l .inv .4) (weighted-step bytes i h),
-    )
+part-rows-start : tie.Need-part-rows-start
+part-rows-start c = search needs
 
--- a times the zeros is small
-after-small : (a zeros i : ℕ) → a ≤ 255 * i → i ≤ 508 → zeros ≤ 508 → a * zeros ≤ 129540 * 508
-after-small a zeros i p q r = mul-le-mul {n₁ = a} {m₁ = zeros} {n₂ = 129540} {m₂ = 508} (omega arith) r
+part-rows-end : tie.Need-part-rows-end
+part-rows-end c = search needs
 
-mul-after : tie.Need-mul-after Inv-loop μ-loop
-mul-after c = omega (arith, after-small (c .before .loop .a) (c .before .before .args .zeros) (c .before .loop .i) (omega arith) (omega arith) (omega arith))
+rows-requires : tie.Need-rows-requires
+rows-requires c κs =
+    let body = (c .before .before .before .before .before .before .before) .args .body .now in
+    let n = front-long body ((c .before .before .before) .copy .last .0) ((c .before .before .before .before .before .before .before) .pre) ((c .before .before .before) .copy .ensures) in
+    let m : length (take 480 (drop 28 body)) ≡ 480 = simp (length-take, length-drop) (omega arith) in
+    (omega (arith, n), omega (arith, m), omega (arith, m))
 
-add-t13 : tie.Need-add-t13 Inv-loop μ-loop
-add-t13 c = omega (arith, after-small (c .before .loop .a) (c .before .before .args .zeros) (c .before .loop .i) (omega arith) (omega arith) (omega arith))
+joined-requires : tie.Need-joined-requires
+joined-requires c κs = c .rows .ensures .1
 
-returns : tie.Need-returns Inv-loop μ-loop
+cast-t19 : tie.Need-cast-t19
+cast-t19 c = search needs
+
+cast-t21 : tie.Need-cast-t21
+cast-t21 c = search needs
+
+returns : tie.Need-returns
+unfolding checkA checkB
 returns c =
-    let l = c .before .loop in
-    let start = c .before .before in
-    let bytes = start .args .bytes .now in
-    let h : length bytes ≤ l .i = c .loop-test .left in (
-      plain-end modulus bytes (start .args .zeros) (l .i) (l .a) h (l .inv .3),
-      weighted-end modulus bytes (start .args .zeros) (l .i) (l .a) (l .b) h (l .inv .3) (l .inv .4),
+    let body = (c .before .before .before .before .before .before .before .before .before .before .before) .args .body .now in
+    let copied = (c .before .before .before .before .before .before .before) .copy in
+    let rows = (c .before .before .before) .rows .ensures .0 in
+    let joined = (c .before .before) .joined in
+    let bytes = copied .last .0 ++ [] ++ take 480 (drop 28 body) in
+    let all : bytes ≡ body = whole body (copied .last .0) ((c .before .before .before .before .before .before .before .before .before .before .before) .pre) (copied .ensures) in
+    let b : joined .result .b ≡ weighted (0 ∷ 0 ∷ 0 ∷ 0 ∷ bytes) = omega (arith, joined .ensures .1, rows .weightedly) in (
+      ap (λ (n : ℕ). n % modulus) (joined .ensures .0 ∙ sym (rows .plainly) ∙ plain-front bytes ∙ ap plain all),
+      ap (λ (n : ℕ). n % modulus) (b ∙ weighted-front bytes ∙ ap weighted all),
     )
 
 pub check-of-spec : {M : Type 1} → statement M
 check-of-spec =
     tie.close
     (tie.spec
-    Inv-loop
-    μ-loop
-    loop-holds
-    shared-slice-read-byte
-    cast-byte
-    add-a
-    add-b
-    add-i
-    loop-less
-    loop-again
-    mul-after
-    add-t13
+    sub-copy
+    part-first-start
+    part-first-end
+    slice-aggregate-copy
+    copy-requires
+    slice-aggregate-rows
+    sub-rows
+    part-rows-start
+    part-rows-end
+    rows-requires
+    joined-requires
+    cast-t19
+    cast-t21
     returns)

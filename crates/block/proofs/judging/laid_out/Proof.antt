@@ -1,10 +1,9 @@
 -- `judging::laid_out` meets its contract: its four tests are those of the layout.
 -- Assumes nothing.
 use mathlib.Core.Path.{sym}
-use Prim.Native.Nat.{_+_}
 use lib.Seq.{length-take-le}
 use Rattle.area.specs.Part.{part}
-use Rattle.block.specs.Sizes.{headerSize, bodySize}
+use Rattle.block.specs.Sizes.{bodySize}
 use Rattle.block.proofs.Rules.{laid-by}
 use borrow.Author.Needs.{needs}
 use native.Mathlib.Omega.{arith}
@@ -32,6 +31,18 @@ shared-slice-read-reserved-3 c = search needs
 add-end : tie.Need-add-end
 add-end c = search needs
 
+slice-aggregate-check-of : tie.Need-slice-aggregate-check-of
+slice-aggregate-check-of c = sym (length-take-le bodySize ((c .before .before .before .before .before .before .before .before) .args .slot .now) (omega arith))
+
+check-of-requires : tie.Need-check-of-requires
+check-of-requires c κs = length-take-le bodySize ((c .before .before .before .before .before .before .before .before) .args .slot .now) (omega arith)
+
+get-pair-requires : tie.Need-get-pair-requires
+get-pair-requires c κs = search needs
+
+get-pair-requires-2 : tie.Need-get-pair-requires-2
+get-pair-requires-2 c κs = search needs
+
 sub-blank : tie.Need-sub-blank
 sub-blank c = search needs
 
@@ -44,37 +55,18 @@ part-blank-end c = search needs
 blank-requires : tie.Need-blank-requires
 blank-requires c κs = search needs
 
-slice-aggregate-check-of : tie.Need-slice-aggregate-check-of
-slice-aggregate-check-of c =
-    let start = c .before .before .before .before .before .before .before .before .before .before in
-    sym (length-take-le (headerSize + start .args .count) (start .args .slot .now) (omega arith))
-
-sub-check-of : tie.Need-sub-check-of
-sub-check-of c = search needs
-
-check-of-requires : tie.Need-check-of-requires
-check-of-requires c κs =
-    let start = c .before .before .before .before .before .before .before .before .before .before in
-    omega (arith, length-take-le (headerSize + start .args .count) (start .args .slot .now) (omega arith))
-
-get-pair-requires : tie.Need-get-pair-requires
-get-pair-requires c κs = search needs
-
-get-pair-requires-2 : tie.Need-get-pair-requires-2
-get-pair-requires-2 c κs = search needs
-
 returns : tie.Need-returns
 unfolding part
 returns c =
-    let start = c .before .before .before .before .before .before .before .before .before .before .before .before .before .before .before in
-    let known = c .before .before .before .before .before .before .before .before .before .before .before .before .before .before .shared-slice-known in
-    let at = c .before .before .before .before .before .before .before .before .before .before .before .before .before .fields-at in
-    let of = c .before .before .before .before .before .before .before .before .before .before .before .before .fields-of in
-    let told = c .before .before .before .before .before .before .before .before .before .before .before .same-fields in
-    let padding = c .before .before .before .before .before .before .blank in
-    let sums = c .before .before .before .before .check-of in
-    let x = c .before .before .before .get-pair in
-    let y = c .before .get-pair2 in
+    let start = (c .before .before .before .before .before .before .before .before .before .before .before .before .before .before .before) in
+    let known = (c .before .before .before .before .before .before .before .before .before .before .before .before .before .before) .shared-slice-known in
+    let at = (c .before .before .before .before .before .before .before .before .before .before .before .before .before) .fields-at in
+    let of = (c .before .before .before .before .before .before .before .before .before .before .before .before) .fields-of in
+    let told = (c .before .before .before .before .before .before .before .before .before .before .before) .same-fields in
+    let sums = (c .before .before .before .before .before .before) .check-of in
+    let x = (c .before .before .before .before .before) .get-pair in
+    let y = (c .before .before .before) .get-pair2 in
+    let padding = c .blank in
     laid-by (start .args .slot .now) (start .args .count) (start .args .block) (at .result) (of .result) (told .result) (padding .result)
     (x .result) (y .result) (sums .result .a) (sums .result .b)
     (start .pre .0) (λ i. omega (arith, known .given i)) (start .pre .2) (start .pre .3) (start .pre .1)
@@ -91,13 +83,12 @@ laid-out-spec =
     shared-slice-read-reserved-2
     shared-slice-read-reserved-3
     add-end
+    slice-aggregate-check-of
+    check-of-requires
+    get-pair-requires
+    get-pair-requires-2
     sub-blank
     part-blank-start
     part-blank-end
     blank-requires
-    slice-aggregate-check-of
-    sub-check-of
-    check-of-requires
-    get-pair-requires
-    get-pair-requires-2
     returns)
