@@ -11,6 +11,7 @@ extern workload pegridol_checks;          /* CHECK */
 
 const struct subject pegridol_subject = {
     .name = "proved store",
+    .same_answers = true,
     .work = {
         [COMMIT] = pegridol_commits,
         [COMMIT_LATE] = pegridol_late_commits,

@@ -123,25 +123,7 @@ static struct image make_log(uint32_t slots, uint32_t hot, bool extra, uint64_t 
     return image;
 }
 
-/* ---- Plain reads, to hold the check against --------------------------------------------------- */
-
-static uint64_t read_by_bytes(uint8_t *log, size_t log_length, uint8_t *home, size_t home_length,
-                              uint8_t *frames, size_t frames_length, uint8_t *staging,
-                              size_t staging_length, uint64_t count)
-{
-    uint64_t digest = 0;
-
-    (void)log_length, (void)home, (void)home_length, (void)frames, (void)frames_length;
-    (void)staging, (void)staging_length;
-    for (uint64_t i = 0; i < count; i++) {
-        const uint8_t *at = log + i % BENCH_SLOTS * STORE_BLOCK_SIZE;
-        uint32_t sum = 0;
-        for (size_t j = 0; j < STORE_BLOCK_SIZE - 4; j++)
-            sum += at[j];
-        digest = note(digest, sum);
-    }
-    return digest;
-}
+/* ---- A plain read, to hold the check against -------------------------------------------------- */
 
 static uint64_t read_by_words(uint8_t *log, size_t log_length, uint8_t *home, size_t home_length,
                               uint8_t *frames, size_t frames_length, uint8_t *staging,
@@ -163,11 +145,6 @@ static uint64_t read_by_words(uint8_t *log, size_t log_length, uint8_t *home, si
     }
     return digest;
 }
-
-static const struct subject bytes_subject = {
-    .name = "plain read, bytes",
-    .work = {[CHECK] = read_by_bytes},
-};
 
 static const struct subject words_subject = {
     .name = "plain read, words",
@@ -213,11 +190,21 @@ static const struct subject *const subjects[] = {
     &lmdb_subject,
     &lmdb_mapped_subject,
 #endif
-    &bytes_subject,
+    &check_by_bytes_subject,
+#ifdef __SSE2__
+    &check_by_sse2_subject,
+#endif
     &words_subject,
 };
 
 enum { SUBJECTS = sizeof subjects / sizeof subjects[0] };
+
+/* Where the check one byte a turn stands among the subjects. */
+#ifdef __SSE2__
+enum { BY_BYTES = SUBJECTS - 3 };
+#else
+enum { BY_BYTES = SUBJECTS - 2 };
+#endif
 
 #ifdef WITH_PEGRIDOL
 enum { STORES = 2 };
@@ -338,7 +325,7 @@ static double measure(struct frame *frame, enum workload_number number, size_t w
         expected_pages(frame->pages, count);
         if (memcmp(frame->records, frame->pages, HOME_LENGTH) != 0)
             fail("a record is not what the transactions make of it", subject->name);
-    } else if (which < STORES) {
+    } else if (subject->same_answers) {
         if (which == 0)
             frame->digests[number] = digest;
         else if (digest != frame->digests[number])
@@ -403,6 +390,12 @@ static void print_table(int rounds)
             name = "";
         }
     }
+
+    printf("\nThe check of a block, as a multiple of one byte a turn:\n");
+    for (size_t which = 0; which < SUBJECTS; which++)
+        if (subjects[which]->same_answers)
+            printf("%-24s %.2f\n", subjects[which]->name,
+                   ratio(CHECK, which, CHECK, BY_BYTES, rounds));
 
     printf("\nOpen's time for each slot, as a multiple of that at N 1,024:\n");
     for (size_t which = 0; which < STORES; which++)

@@ -50,8 +50,8 @@
  *   frames are in use.
  *
  * CHECK (log: as OPEN_FULL)
- *   For i from 0 to count - 1: the check of the first 508 bytes of slot i % 1024, as if the slot
- *   could hold any bytes there, noting A + 65536 * B as for an accepted call. */
+ *   For i from 0 to count - 1: the check of the first 508 bytes of slot i % 1024, noting
+ *   A + 65536 * B as for an accepted call. */
 #ifndef WORKLOADS_H
 #define WORKLOADS_H
 
@@ -87,6 +87,7 @@ typedef uint64_t workload(uint8_t *log, size_t log_length, uint8_t *home, size_t
 /* Something that is measured. A workload that it does not have is NULL. */
 struct subject {
     const char *name;
+    bool same_answers;  /* its digests must be C's */
     /* Only for a subject that keeps its records elsewhere, else NULL. `start` makes a fresh store of
      * 4,096 records of 1,024 bytes in a folder; `stop` reads all records back and takes the store
      * away. Both are outside the measured time, and false if something failed. */
@@ -135,6 +136,10 @@ static inline void next_updates(struct two_updates *updates, uint64_t *x, uint64
 }
 
 extern const struct subject c_subject;
+extern const struct subject check_by_bytes_subject;
+#ifdef __SSE2__
+extern const struct subject check_by_sse2_subject;
+#endif
 #ifdef WITH_PEGRIDOL
 extern const struct subject pegridol_subject;
 #endif

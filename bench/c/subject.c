@@ -144,6 +144,7 @@ static uint64_t checks(AREAS, uint64_t count)
 
 const struct subject c_subject = {
     .name = "C",
+    .same_answers = true,
     .work = {
         [COMMIT] = commits,
         [COMMIT_LATE] = late_commits,

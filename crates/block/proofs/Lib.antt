@@ -1,6 +1,7 @@
 pub mod Lengths
 pub mod Numbers
 pub mod Tests
+pub mod Zeros
 pub mod Sums
 pub mod Indexed
 pub mod Lanes

@@ -10,6 +10,7 @@ ghost use mathlib.Core.Bool.{_&&_};
 ghost use Prim.Native.Nat.{_+_, _-_, _≤_, _<_, max};
 ghost use lib.Dec.{leb, eqb};
 ghost use lib.ListN.{length};
+ghost use Rattle.area.specs.Part.{part};
 ghost use Rattle.block.specs.Sizes.{blockSize, newBytesMost};
 ghost use Rattle.block.specs.Kind.{kindOf, lengthOf};
 ghost use Rattle.block.specs.Layout.{layout};
@@ -43,8 +44,8 @@ fn larger(a: u8, b: u8) -> u8
     if a < b { b } else { a }
 }
 
-// Whether all bytes are zero, for bytes that likely are: the largest of all tells, and no branch is taken on a byte.
-fn blank(bytes: &[u8]) -> bool
+// Whether all of a few bytes are zero: the largest of them tells, and no branch is taken on a byte.
+fn few_blank(bytes: &[u8]) -> bool
     ensures { λ r. ⌜ r ≡ allZero (now (bytes .entry)) ⌝ }
 {
     let mut most: u8 = 0;
@@ -54,6 +55,44 @@ fn blank(bytes: &[u8]) -> bool
         i += 1;
     }
     most == 0
+}
+
+// Whether the 32 bytes from a place on are zero, eight at a time.
+fn blank_from(bytes: &[u8], place: usize) -> bool
+    requires { ⌜ (place ≤ 96) × (place + 32 ≤ length (now bytes)) ⌝ }
+    ensures { λ r. ⌜ r ≡ allZero (part (now (bytes .entry)) place 32) ⌝ }
+{
+    (number::get_long(bytes, place) == 0)
+        & (number::get_long(bytes, place + 8) == 0)
+        & (number::get_long(bytes, place + 16) == 0)
+        & (number::get_long(bytes, place + 24) == 0)
+}
+
+// Whether 128 bytes are zero.
+fn row_blank(bytes: &[u8]) -> bool
+    requires { ⌜ length (now bytes) ≡ 128 ⌝ }
+    ensures { λ r. ⌜ r ≡ allZero (now (bytes .entry)) ⌝ }
+{
+    blank_from(bytes, 0) & blank_from(bytes, 32) & blank_from(bytes, 64) & blank_from(bytes, 96)
+}
+
+// Whether all bytes are zero, for bytes that likely are: in rows of 128, the last of which ends with the last byte and may share bytes
+// with the one before.
+fn blank(bytes: &[u8]) -> bool
+    ensures { λ r. ⌜ r ≡ allZero (now (bytes .entry)) ⌝ }
+{
+    if bytes.len() < 128 {
+        return few_blank(bytes);
+    }
+    let last = bytes.len() - 128;
+    let mut i = 0;
+    while i < last {
+        if !row_blank(&bytes[i..i + 128]) {
+            return false;
+        }
+        i += 128;
+    }
+    row_blank(&bytes[last..])
 }
 
 // Bytes 16 and 18 to 25 of a slot.
