@@ -148,6 +148,10 @@ row-summed before xs row after long added told =
 
 -- ---- rows one after the other
 
+-- before the first row
+abbrev none : Lanes
+none = record { pairs = replicate 16 0; uppers = replicate 16 0; pairtotals = replicate 16 0; uppertotals = replicate 16 0 }
+
 none-lane : (l : ℕ) → l < 16 → getD {A = ℕ} (replicate 16 0) l 0 ≡ 0
 none-lane l h = getD-replicate {A = ℕ} 16 l 0 0 h
 
@@ -155,7 +159,7 @@ none-lower : (l : ℕ) → l < 16 → lowerOf (getD {A = ℕ} (replicate 16 0) l
 unfolding lowerOf
 none-lower l h = rw (none-lane l h) refl
 
-none-summed : Summed (record { pairs = replicate 16 0; uppers = replicate 16 0; pairtotals = replicate 16 0; uppertotals = replicate 16 0 }) []
+none-summed : Summed none []
 unfolding plainOf weightedOf uppersOf sumBelow lowerOf plain weighted
 none-summed = record { plainly = refl; weightedly = refl }
 
@@ -166,9 +170,6 @@ pub record Read (lanes : Lanes) (bytes : List ℕ) (count : ℕ) : Type 0 where
   pub upper : (l : ℕ) → l < 16 → 32 * getD (lanes .uppers) l 0 ≤ 255 * count
   pub lowers : (l : ℕ) → l < 16 → 32 * lowerTotal lanes l ≤ 3825 * count
   pub uppers : (l : ℕ) → l < 16 → 32 * getD (lanes .uppertotals) l 0 ≤ 3825 * count
-
-abbrev none : Lanes
-none = record { pairs = replicate 16 0; uppers = replicate 16 0; pairtotals = replicate 16 0; uppertotals = replicate 16 0 }
 
 pub none-read : Read none [] 0
 none-read =
