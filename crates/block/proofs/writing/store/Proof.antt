@@ -4,7 +4,7 @@
 use mathlib.Core.Path.{_≡_, sym, ap, _∙_}
 use mathlib.Core.List.{List, _++_}
 use Prim.Native.Nat.{ℕ, _+_, _-_}
-use lib.ListN.{length, take, replicate, length-append, length-take, length-drop}
+use lib.ListN.{length, take, replicate, length-append}
 use lib.Seq.{sets, length-sets, length-take-le, take-at}
 use borrow.Rule.Slice.PartMut.{putMid}
 use Rattle.area.specs.Part.{part, splice}
@@ -45,8 +45,9 @@ built-is c =
 
 built-long : (c : tie.After-b3) → length (built (c .before)) ≡ blockSize
 built-long c =
-    let g = simp (length-take, length-drop) at (c .b3 .given) in
-    simp (length-append, length-take, length-drop) (omega (arith, head-long (c .before .before .before)))
+    let start = c .before .before .before .before .before .before .before in
+    let long : length (body (start .args .block) (start .args .new .now)) ≡ bodySize = length-body (start .args .block) (start .args .new .now) (start .pre .1) in
+    ap length (built-is (c .before)) ∙ simp (length-append, long)
 
 put-header-requires : tie.Need-put-header-requires
 put-header-requires c κs = search needs
