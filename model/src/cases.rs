@@ -1,4 +1,5 @@
-//! The worked cases of document 01: as a script, and as tests against its numbers.
+//! The worked cases of document 01: as a script, and as tests against its numbers; and the desks of
+//! document 02's request b.
 
 use crate::block::{encode, Block, Kind, BLOCK_SIZE};
 
@@ -68,14 +69,45 @@ fn pokes(slot: usize, block: &Block) -> Vec<String> {
     lines
 }
 
-/// Cases 5 to 13 in the script language, 8 slots, 4 pages and 2 frames unless said there.
+/// Adds the lines of a text with a stroke between each two.
+fn say(lines: &mut Vec<String>, text: &str) {
+    for line in text.split('/') {
+        lines.push(line.to_string());
+    }
+}
+
+/// Request b, the lines up to where the cleaning starts: page 14 is changed by a first transaction,
+/// then four pages by a second one, described in some order. They take their frames in this order,
+/// or, after a cut, in that of the opening.
+fn desk_dirty(order: [u64; 4], cut: bool) -> Vec<String> {
+    let mut lines = Vec::new();
+    say(&mut lines, "a 16 16 8/f/o/b 1/d 14 0 1 14/e/l/l/b 4");
+    for page in order {
+        lines.push(format!("d {page} {page} 400 {page}"));
+    }
+    say(&mut lines, "e/l/l/l/l/l");
+    if cut {
+        say(&mut lines, "x/o");
+    }
+    lines
+}
+
+/// The lines after these: all five pages are cleaned, and ten blocks of one more page go over the four
+/// updates, which are all that the order of describing may show in.
+fn desk_clean() -> Vec<String> {
+    let mut lines = Vec::new();
+    say(&mut lines, &["c"; 15].join("/"));
+    for seed in 0..5 {
+        say(&mut lines, &format!("b 1/d 0 0 8 {seed}/e/l/l"));
+    }
+    say(&mut lines, "g");
+    lines
+}
+
+/// Cases 5 to 13 in the script language, 8 slots, 4 pages and 2 frames unless said there; then three
+/// desks of request b, whose last lines are the same.
 pub fn script() -> String {
     let mut lines: Vec<String> = Vec::new();
-    let say = |lines: &mut Vec<String>, text: &str| {
-        for line in text.split('/') {
-            lines.push(line.to_string());
-        }
-    };
     let all = u64::MAX;
 
     // Case 5 by calls, then after a cut; cases 10 and 11 on it.
@@ -144,6 +176,16 @@ pub fn script() -> String {
         &mut lines,
         &format!("p {} 255/p {} 0/o", place(101), place(357)),
     );
+
+    // Request b.
+    for (order, cut) in [
+        ([2, 5, 9, 12], false),
+        ([12, 2, 9, 5], false),
+        ([9, 12, 5, 2], true),
+    ] {
+        lines.extend(desk_dirty(order, cut));
+        lines.extend(desk_clean());
+    }
 
     let mut text = String::new();
     for line in lines {
@@ -427,6 +469,10 @@ mod tests {
                 "opened 1 next 3",
                 "opened 1 next 3",
                 "refused 7 place 1",
+                "opened 0 next 1", // request b
+                "opened 0 next 1",
+                "opened 0 next 1",
+                "opened 2 next 8",
             ]
         );
         // Case 10, twice.
@@ -452,6 +498,79 @@ mod tests {
         assert_eq!(log_of(digests[1]), log_of(digests[5]), "case 5");
         assert_eq!(log_of(digests[2]), log_of(digests[6]), "case 7");
         assert_eq!(log_of(digests[3]), log_of(digests[4]), "case 6");
+        // Request b.
+        let desks = &digests[digests.len() - 3..];
+        assert_eq!((desks[1], desks[2]), (desks[0], desks[0]), "request b");
+    }
+
+    /// The four numbers in every order.
+    fn orders(pages: [u64; 4]) -> Vec<[u64; 4]> {
+        let mut orders = Vec::new();
+        for a in 0..4 {
+            for b in 0..4 {
+                for c in 0..4 {
+                    if a != b && a != c && b != c {
+                        let d = 6 - a - b - c;
+                        orders.push([pages[a], pages[b], pages[c], pages[d]]);
+                    }
+                }
+            }
+        }
+        orders
+    }
+
+    /// Request b: the smallest first group comes first, among equals the lowest page number, in
+    /// whatever frames the pages are. So desks that differ in their frames end with the same bytes.
+    #[test]
+    fn cleaning_in_a_fixed_order() {
+        let mut frames_seen = Vec::new();
+        let mut ends = Vec::new();
+        for order in orders([2, 5, 9, 12]) {
+            for cut in [false, true] {
+                for choice in [FreeChoice::Lowest, FreeChoice::Highest] {
+                    let mut runner = Runner::new(choice);
+                    for line in desk_dirty(order, cut) {
+                        runner.run_line(line.as_bytes());
+                    }
+                    let state = &runner.store.as_ref().unwrap().state;
+                    let mut frames: Vec<(u64, u64)> =
+                        state.dirty.iter().map(|d| (d.page, d.frame)).collect();
+                    frames.sort();
+                    assert_eq!(frames.len(), 5);
+                    if !frames_seen.contains(&frames) {
+                        frames_seen.push(frames);
+                    }
+                    let mut last = String::new();
+                    for line in desk_clean() {
+                        last = runner.run_line(line.as_bytes());
+                        assert!(!last.starts_with("refused") && last != "bad", "{line}");
+                    }
+                    let log = &runner.store.as_ref().unwrap().log;
+                    let mut cleaned = Vec::new();
+                    for sequence in 7..23 {
+                        let slot = slot_of(sequence, 16);
+                        let bytes = &log[slot as usize * BLOCK_SIZE..][..BLOCK_SIZE];
+                        match read_slot(bytes, slot, 16, 16) {
+                            Slot::Valid(block) => {
+                                assert_eq!(block.sequence, sequence);
+                                if let Kind::Clean { page } = block.kind {
+                                    cleaned.push((sequence, page));
+                                }
+                            }
+                            _ => panic!("slot {slot} has no block"),
+                        }
+                    }
+                    let expected = vec![(8, 14), (9, 2), (10, 5), (11, 9), (12, 12)];
+                    assert_eq!(cleaned, expected);
+                    ends.push(last);
+                }
+            }
+        }
+        // 24 orders of describing, and the order of the pages' numbers that the model's opening takes,
+        // each from the lowest frame up and from the highest down.
+        assert_eq!(frames_seen.len(), 50);
+        assert_eq!(ends.len(), 96);
+        assert!(ends.iter().all(|end| *end == ends[0]));
     }
 
     #[test]

@@ -81,6 +81,14 @@ pub fn table(count: u64, seed: u64) -> String {
         ("clean blocks", counts.clean_blocks),
         ("cleanings given up for a commit", counts.cleanings_given_up),
         (
+            "cleanings with a choice of page",
+            counts.cleanings_among_equals,
+        ),
+        (
+            ".. not that of the lowest frame",
+            counts.cleanings_against_frames,
+        ),
+        (
             "blocks stored over an older block",
             counts.blocks_over_older_blocks,
         ),

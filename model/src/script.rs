@@ -158,6 +158,8 @@ pub struct Counts {
     pub commits_of_several: u64,
     pub clean_blocks: u64,
     pub cleanings_given_up: u64,
+    pub cleanings_among_equals: u64,
+    pub cleanings_against_frames: u64,
     pub blocks_over_older_blocks: u64,
     pub blocks_at_the_last_sequence: u64,
     pub openings_with_dirty_pages: u64,
@@ -174,6 +176,8 @@ impl Counts {
         self.commits_of_several += other.commits_of_several;
         self.clean_blocks += other.clean_blocks;
         self.cleanings_given_up += other.cleanings_given_up;
+        self.cleanings_among_equals += other.cleanings_among_equals;
+        self.cleanings_against_frames += other.cleanings_against_frames;
         self.blocks_over_older_blocks += other.blocks_over_older_blocks;
         self.blocks_at_the_last_sequence += other.blocks_at_the_last_sequence;
         self.openings_with_dirty_pages += other.openings_with_dirty_pages;
@@ -465,6 +469,9 @@ impl Runner {
                 match calls::clean_step(state, log, home, frames) {
                     Err(refusal) => refused_line(refusal),
                     Ok(()) => {
+                        if before.cleaning == Cleaning::Idle {
+                            count_a_choice(counts, &before);
+                        }
                         if state.next != before.next {
                             counts.clean_blocks += 1;
                             count_a_block(counts, &before, older);
@@ -520,6 +527,21 @@ fn count_a_block(counts: &mut Counts, before: &State, older: bool) {
     }
     if before.next == crate::block::SEQUENCE_LIMIT - 1 {
         counts.blocks_at_the_last_sequence += 1;
+    }
+}
+
+/// Counts a cleaning that has a choice among pages with the smallest first group, and whether the lowest
+/// of them is in another frame than the lowest.
+fn count_a_choice(counts: &mut Counts, before: &State) {
+    let oldest = before.dirty.iter().map(|d| d.first_group).min().unwrap();
+    let equals = || before.dirty.iter().filter(|d| d.first_group == oldest);
+    if equals().count() > 1 {
+        counts.cleanings_among_equals += 1;
+        let by_page = equals().min_by_key(|d| d.page).unwrap();
+        let by_frame = equals().min_by_key(|d| d.frame).unwrap();
+        if by_page != by_frame {
+            counts.cleanings_against_frames += 1;
+        }
     }
 }
 

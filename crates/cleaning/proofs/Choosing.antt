@@ -1,6 +1,7 @@
 -- The frame that is cleaned next: the least rank of all, and what soundness says of a frame's entry.
 -- Assumes nothing.
 use mathlib.Core.Path.{_≡_, refl, sym, ap, _∙_, subst}
+use mathlib.Core.Logic.{inl, inr}
 use mathlib.Core.Bool.{Bool, true, false, cond, not, _&&_}
 use mathlib.Core.List.{List, [], _∷_}
 use Prim.Native.Nat.{ℕ, zero, suc, _+_, _-_, _*_, _^_, _≤_, _<_, min}
@@ -18,6 +19,7 @@ use Rattle.promises.specs.DirtyPages.{DirtyPage, at, lookUp}
 use Rattle.promises.specs.Contents.{unless, dirtyFrom}
 use Rattle.promises.specs.Sums.{firstGroups, smallest, dirtyCount}
 use Rattle.promises.specs.Sound.{member, allBelow, dirtyNumbers}
+use Rattle.promises.specs.CleanStep.{NoLater}
 use Rattle.promises.proofs.Soundness.{and-both, Sound}
 use Rattle.promises.proofs.Table.{lookUp-set}
 use Rattle.promises.proofs.History.Sees.{by-eq}
@@ -257,11 +259,14 @@ module _ (s : State) (f : Sound s) where
           by-eq (entryAt s i .first) 0 (λ e. e)
           (λ n. absurd (omega (arith, least i h, rank-free 65536 (entryAt s frame) z, rank-used (entryAt s i) n (page-fits i n), firsts-small i, pages-small i n, f .pages .1)))
 
-  -- a lower rank is no later first group
-  pub first-least : (frame other : ℕ) → (entryAt s frame .first ≡ 0 → ⊥) → (entryAt s other .first ≡ 0 → ⊥) → rankIn 65536 (entryAt s frame) ≤ rankIn 65536 (entryAt s other)
-      → entryAt s frame .first ≤ entryAt s other .first
-  first-least frame other n m h =
-      omega (arith, rank-used (entryAt s frame) n (page-fits frame n), rank-used (entryAt s other) m (page-fits other m), pages-small other m, f .pages .1)
+  -- a lower rank comes no later in the order of cleaning
+  pub rank-order : (frame other : ℕ) → (entryAt s frame .first ≡ 0 → ⊥) → (entryAt s other .first ≡ 0 → ⊥) → rankIn 65536 (entryAt s frame) ≤ rankIn 65536 (entryAt s other)
+      → NoLater (entryAt s frame .first) (entryAt s frame .page) (entryAt s other .first) (entryAt s other .page)
+  rank-order frame other n m h =
+      let r = rank-used (entryAt s frame) n (page-fits frame n) in
+      let r′ = rank-used (entryAt s other) m (page-fits other m) in
+      either (entryAt s frame .first) (entryAt s other .first) (λ l. inl l)
+      (λ l. inr (omega (arith, r, r′, page-fits other m), omega (arith, r, r′, page-fits other m, page-fits frame n)))
 
   -- ---- the frame of a named page
   pub named-here : (page frame : ℕ) → isOf page (entryAt s frame) ≡ true → Named s page frame
@@ -283,19 +288,19 @@ module _ (s : State) (f : Sound s) where
       ∙ lookUp-set (d .page) frames frames 0 frame (s .dirty) d h (λ g q. refl) (λ e. own-apart frame (s .dirty) (f .distinctPages) z)
       ∙ rw (z, eq-eqb (d .page) (d .page) refl, own)
 
--- what is no more than every first group is no more than that of a page that is found
-pub look-least : (k p : ℕ) (e : DirtyPage) (frames : List ℕ) (g : ℕ) (ds : List Dirty)
-    → ((i : ℕ) → i < length ds → (getD ds i free .first ≡ 0 → ⊥) → k ≤ getD ds i free .first) → lookUp p (dirtyFrom frames g ds) ≡ at e → k ≤ e .first
+-- what holds of every frame in use holds of a page that is found
+pub look-all : (P : ℕ → ℕ → Type 0) (p : ℕ) (e : DirtyPage) (frames : List ℕ) (g : ℕ) (ds : List Dirty)
+    → ((i : ℕ) → i < length ds → (getD ds i free .first ≡ 0 → ⊥) → P (getD ds i free .first) (getD ds i free .page)) → lookUp p (dirtyFrom frames g ds) ≡ at e → P (e .first) p
 unfolding dirtyFrom lookUp
-look-least k p e frames g [] h q = let y : _≡_ {A = ℕ} 0 1 = cc in absurd (omega arith)
-look-least k p e frames g (d ∷ ds) h q = go (look-least k p e frames (suc g) ds (λ i l n. h (suc i) (omega arith) n)) (eqb (d .first) 0) refl q
+look-all P p e frames g [] h q = let y : _≡_ {A = ℕ} 0 1 = cc in absurd (omega arith)
+look-all P p e frames g (d ∷ ds) h q = go (look-all P p e frames (suc g) ds (λ i l n. h (suc i) (omega arith) n)) (eqb (d .first) 0) refl q
   where
-    by : (lookUp p (dirtyFrom frames (suc g) ds) ≡ at e → k ≤ e .first) → (t : Bool) (x : DirtyPage) → k ≤ x .first
-        → cond t (at x) (lookUp p (dirtyFrom frames (suc g) ds)) ≡ at e → k ≤ e .first
-    by ih true x l q = let same : x ≡ e = cc in subst (λ (y : DirtyPage). k ≤ y .first) same l
-    by ih false x l q = ih q
+    by : (lookUp p (dirtyFrom frames (suc g) ds) ≡ at e → P (e .first) p) → (t : Bool) → eqb p (d .page) ≡ t → (x : DirtyPage) → P (x .first) (d .page)
+        → cond t (at x) (lookUp p (dirtyFrom frames (suc g) ds)) ≡ at e → P (e .first) p
+    by ih true o x l q = let same : x ≡ e = cc in subst (λ (y : DirtyPage). P (y .first) p) same (subst (P (x .first)) (sym (eqb-true p (d .page) o)) l)
+    by ih false o x l q = ih q
 
-    go : (lookUp p (dirtyFrom frames (suc g) ds) ≡ at e → k ≤ e .first) → (t : Bool) → eqb (d .first) 0 ≡ t
-        → lookUp p (unless t (record { page = d .page; first = d .first; bytes = pageAt frames g }) (dirtyFrom frames (suc g) ds)) ≡ at e → k ≤ e .first
+    go : (lookUp p (dirtyFrom frames (suc g) ds) ≡ at e → P (e .first) p) → (t : Bool) → eqb (d .first) 0 ≡ t
+        → lookUp p (unless t (record { page = d .page; first = d .first; bytes = pageAt frames g }) (dirtyFrom frames (suc g) ds)) ≡ at e → P (e .first) p
     go ih true z q = ih q
-    go ih false z q = by ih (eqb p (d .page)) _ (h 0 (omega arith) (eqb-false _ _ z)) q
+    go ih false z q = by ih (eqb p (d .page)) refl _ (h 0 (omega arith) (eqb-false _ _ z)) q

@@ -19,7 +19,7 @@ use Rattle.promises.specs.Sound.{sound, names, member, dirtyNumbers}
 use Rattle.promises.specs.declared.Answer.{Answer}
 use Rattle.promises.specs.declared.Answer.the-variants.{Refused, Done}
 use Rattle.promises.specs.Answers.{refusalIn}
-use Rattle.promises.specs.CleanStep.{Takes, cleanStore, thirdRefusal, cleanRefusalOf, CleanStep, CleanSteps}
+use Rattle.promises.specs.CleanStep.{NoLater, Takes, cleanStore, thirdRefusal, cleanRefusalOf, CleanStep, CleanSteps}
 use Rattle.promises.proofs.Soundness.{Sound, sound-of, of-sound}
 use Rattle.promises.proofs.Changes.{cleaningTo, sound-cleaning}
 use Rattle.promises.proofs.Promised.{clean-accepts}
@@ -31,7 +31,7 @@ use Rattle.stepping.proofs.Refused.{numbered}
 use Rattle.cleaning.specs.declared.Change.{Change}
 use Rattle.cleaning.specs.Cleans.{entryAt, rankIn, namedIn, TakesFrame, Named, Chosen, Fitting, changed, Cleaned, doneWith, Changes}
 use Rattle.cleaning.proofs.Decision.{Accepted, accepted, block-passed}
-use Rattle.cleaning.proofs.Choosing.{rank-zero, rank-named, dirty-at, first-used, first-least, named-here, pages-small, frames-below, look-frame, look-least}
+use Rattle.cleaning.proofs.Choosing.{rank-zero, rank-named, dirty-at, first-used, rank-order, named-here, pages-small, frames-below, look-frame, look-all}
 use Rattle.cleaning.proofs.Storing.{sound-clean}
 
 -- ---- the frame that is cleaned
@@ -106,7 +106,7 @@ module _ (s : State) (log home frames : List ℕ) (accepts : cleanRefusalOf s lo
 
   takes-by : (c : Cleaning) → TakesFrame c s frame → Takes c pages page entry
   takes-by Idle t =
-      λ other found q. look-least (entry .first) other found frames 0 (s .dirty) (λ i h n. first-least s facts frame i (chosen .used) n (t i h)) q
+      λ other found q. look-all (NoLater (entry .first) page) other found frames 0 (s .dirty) (λ i h n. rank-order s facts frame i (chosen .used) n (t i h)) q
   takes-by (First named) t = sym t
   takes-by (Second named) t = sym t
   takes-by (Third named) t = sym t

@@ -12,9 +12,11 @@ use Rattle.promises.specs.LogStep.{LogSteps}
 use Rattle.promises.specs.CleanStep.{CleanSteps}
 use Rattle.promises.specs.Events.{World, Call, opening, begin, describe, ending, logStep, cleanStep, reading, settling, Reply, Step}
 use Rattle.promises.specs.Corollaries.{StaysSettled, AllOrNothing, NoTrace, OpensAlike}
+use Rattle.promises.specs.Alike.{CallsAlike, DesksAlike}
 use Rattle.promises.proofs.Accounts.{book-accounts}
 use Rattle.promises.proofs.Refines.{Refines, demand-three-by}
 use Rattle.promises.proofs.Corollaries.{stays-settled, all-or-nothing, no-trace, opens-alike}
+use Rattle.promises.proofs.DesksAlike.{calls-alike, desks-alike}
 use Rattle.durability.specs.Called.{Formatted, Taken}
 use Rattle.durability.specs.Durable.{shipped, Durable, Accounted}
 
@@ -107,3 +109,11 @@ uncommitted-gone = no-trace shipped keeps-promises
 -- two openings in a row show the same
 pub openings-alike : OpensAlike shipped
 openings-alike = opens-alike shipped keeps-promises
+
+-- the same call on two stores whose states say the same, with the same log and home: the same reply, and the same log and home after it
+pub same-call-same-log : CallsAlike shipped shipped
+same-call-same-log = calls-alike shipped shipped keeps-promises keeps-promises
+
+-- two desks that found the same home and made the same calls, with the same cuts, have the same log and home, byte for byte
+pub same-calls-same-log : DesksAlike shipped shipped
+same-calls-same-log = desks-alike shipped shipped keeps-promises keeps-promises

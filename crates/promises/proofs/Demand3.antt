@@ -70,7 +70,7 @@ do-call z range w b g (reading p) a w′ l st = rw (st .after) g
 do-call z range w b g (settling t) a w′ l st = rw (st .after) g
 
 -- ---- a cut: only log and home are left, and what the book keeps of them
-not-sound : {X : Type 0} → sound allZeroState ≡ true → X
+pub not-sound : {X : Type 0} → sound allZeroState ≡ true → X
 not-sound e = no-accept (sym all-zero-unsound ∙ e)
 
 fall : (z : Sizes) (w : World) (b : Book) (frames staging : List ℕ) → Good z w b → Good z (fallen w frames staging) (gone b)
@@ -119,7 +119,7 @@ do-cut z range w b g c a w′ true frames staging l st = go c (accepts a) (do-ca
 
 -- ---- a call that is lent other areas
 -- its state is as it was, or all-zero after an Open
-abbrev Unfit : Call → State → State → Type 0
+abbrev pub Unfit : Call → State → State → Type 0
 Unfit (opening frames staging) s t = t ≡ allZeroState
 Unfit (begin u) s t = t ≡ s
 Unfit (describe u) s t = t ≡ s
@@ -129,7 +129,7 @@ Unfit cleanStep s t = t ≡ s
 Unfit (reading p) s t = t ≡ s
 Unfit (settling t′) s t = t ≡ s
 
-unfit-state : (c : Call) (n : ℕ) (a : Reply) (w w′ : World) → 0 < n → a ≡ refuses n → Step c w a w′ → Unfit c (w .state) (w′ .state)
+pub unfit-state : (c : Call) (n : ℕ) (a : Reply) (w w′ : World) → 0 < n → a ≡ refuses n → Step c w a w′ → Unfit c (w .state) (w′ .state)
 unfit-state (opening frames staging) n a w w′ h e st = go (openFinding (w .log) (w .home) (length frames) (length staging)) refl
   where
     go : (x : Finding) → openFinding (w .log) (w .home) (length frames) (length staging) ≡ x → w′ .state ≡ allZeroState

@@ -17,5 +17,12 @@ pub mod Demand3
 pub mod Accounts
 pub mod Promised
 pub mod Life
+pub mod RefusedCalls
+pub mod CleaningOrder
+pub mod SameDirty
+pub mod AlikeRefusals
+pub mod OpenFindings
+pub mod AlikeSteps
 pub mod Refines
 pub mod Corollaries
+pub mod DesksAlike

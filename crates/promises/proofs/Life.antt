@@ -2,11 +2,13 @@
 -- is met by these states and areas, by computing.
 -- Assumes nothing.
 use denote.Ref.{RefT}
-use mathlib.Core.Path.{_≡_, refl, sym, ap, _∙_, subst}
+use mathlib.Core.Path.{_≡_, refl, sym, ap, _∙_}
 use native.Mathlib.Omega.{arith}
 use lib.Dec.{eqb}
 use mathlib.Core.Bool.{Bool, true, false, cond, not, _&&_}
-use Prim.Native.Nat.{ℕ, zero, suc, _+_, _*_, _-_, _%_, _≤_}
+use mathlib.Core.Logic.{inr}
+use borrow.Author.Tests.{eqb-true}
+use Prim.Native.Nat.{ℕ, zero, suc, _+_, _*_, _-_, _%_}
 use mathlib.Core.List.{List, [], _∷_, _++_, map}
 use lib.ListN.{length, take, drop, getD, set, replicate}
 use Rattle.area.specs.Part.{part, splice}
@@ -36,7 +38,7 @@ use Rattle.promises.specs.Begin.{beginRefusal, Begins}
 use Rattle.promises.specs.Describe.{describeRefusal, Describes}
 use Rattle.promises.specs.End.{endRefusal, Ends}
 use Rattle.promises.specs.LogStep.{logRefusal, updateBlock, commitBlock, dirtyAfter, cleaningAfter, UpdateStep, CommitStep, LogSteps}
-use Rattle.promises.specs.CleanStep.{cleanRefusal, cleanStore, CleanStep, CleanSteps}
+use Rattle.promises.specs.CleanStep.{NoLater, cleanRefusal, cleanStore, CleanStep, CleanSteps}
 use Rattle.promises.specs.Read.{readRefusal, heldIn, Reads}
 use Rattle.promises.specs.Settled.{settledRefusal, Settles}
 use Rattle.promises.proofs.Promised.{open-accepts, log-updates, log-commits, clean-accepts}
@@ -118,13 +120,13 @@ cleansed : without 0 (entry ∷ []) ≡ []
 unfolding without
 cleansed = refl
 
-only : (p : ℕ) (e x : DirtyPage) → lookUp p (e ∷ []) ≡ at x → e .first ≤ x .first
+only : (p : ℕ) (e x : DirtyPage) → lookUp p (e ∷ []) ≡ at x → NoLater (e .first) (e .page) (x .first) p
 unfolding lookUp
-only p e x q = go (eqb p (e .page)) q
+only p e x q = go (eqb p (e .page)) refl q
   where
-    go : (b : Bool) → cond b (at e) absent ≡ at x → e .first ≤ x .first
-    go true q = let s : e ≡ x = cc in subst (λ (y : DirtyPage). e .first ≤ y .first) s (omega arith)
-    go false q = let n : _≡_ {A = ℕ} 0 1 = cc in absurd (omega arith)
+    go : (b : Bool) → eqb p (e .page) ≡ b → cond b (at e) absent ≡ at x → NoLater (e .first) (e .page) (x .first) p
+    go true o q = let s : e ≡ x = cc in inr (ap (λ (y : DirtyPage). y .first) s, omega (arith, eqb-true p (e .page) o))
+    go false o q = let n : _≡_ {A = ℕ} 0 1 = cc in absurd (omega arith)
 
 open-step : (openFinding log₀ home 2048 944 ≡ stands 1 (startWith 0))
     × OpenStands 1 (startWith 0) log₀ home frames (record { state = awoken; answer = OpenSettled 0 }) frames

@@ -22,3 +22,4 @@ pub mod Book
 pub mod Events
 pub mod Claim
 pub mod Corollaries
+pub mod Alike
