@@ -2,10 +2,8 @@
 -- Assumes nothing.
 use mathlib.Core.Path.{_≡_, refl, sym, ap, _∙_}
 use mathlib.Core.List.{List, []}
-use Prim.Native.Nat.{ℕ, _<_}
-use native.Mathlib.Omega.{arith}
+use Prim.Native.Nat.{ℕ}
 use lib.ListN.{length}
-use Rattle.block.proofs.Tests.{by-cases}
 use Rattle.promises.specs.declared.State.{State}
 use Rattle.promises.specs.declared.OpenOutcome.{OpenOutcome}
 use Rattle.promises.specs.Areas.{slotsIn, pagesIn, framesIn}
@@ -13,9 +11,9 @@ use Rattle.promises.specs.Answers.{openRefusalIn, placeIn}
 use Rattle.promises.specs.Contents.{contentsOf, dirtyOf, allZeroState}
 use Rattle.promises.specs.DirtyPages.{lookUp}
 use Rattle.promises.specs.Walk.{Finding, stops, stands}
-use Rattle.promises.specs.Open.{lengthsFit, openFinding, opened, OpenStops, OpenStands, Opens}
+use Rattle.promises.specs.Open.{openFinding, opened, OpenStops, OpenStands, Opens}
+use Rattle.promises.proofs.OpenFindings.{open-refusals}
 use Rattle.table.proofs.Holding.{empty-holds}
-use Rattle.opening.proofs.Answering.{finding-refusals}
 
 -- two outcomes that nobody can tell apart by the answer, the state's contents and the dirty pages
 pub record Alike (a : OpenOutcome) (frames : List ℕ) (b : OpenOutcome) (frames′ : List ℕ) : Type 0 where
@@ -24,14 +22,6 @@ pub record Alike (a : OpenOutcome) (frames : List ℕ) (b : OpenOutcome) (frames
   pub answerAlike : openRefusalIn (a .answer) ≡ 0 → a .answer ≡ b .answer
   pub contentsAlike : (staging : List ℕ) → contentsOf (a .state) staging ≡ contentsOf (b .state) staging
   pub dirtyAlike : (page : ℕ) → lookUp page (dirtyOf (a .state) frames) ≡ lookUp page (dirtyOf (b .state) frames′)
-
--- a refusal has a number
-stops-number : (log home : List ℕ) (frames staging refusal place : ℕ) → openFinding log home frames staging ≡ stops refusal place → 0 < refusal
-unfolding openFinding
-stops-number log home frames staging refusal place e =
-    by-cases (lengthsFit (length log) (length home) frames staging)
-    (λ f. omega (arith, finding-refusals (slotsIn (length log)) (pagesIn (length home)) (framesIn frames) log home refusal place (rw f at e) .0))
-    (λ f. let h : stops 1 0 ≡ stops refusal place = rw f at e in let z : 1 ≡ refusal = cc in omega arith)
 
 -- the all-zero state has no dirty page
 zero-looks : (frames : List ℕ) (page : ℕ) → lookUp page (dirtyOf allZeroState frames) ≡ lookUp page []
@@ -51,7 +41,7 @@ module _ (log home : List ℕ) (frames₁ staging₁ frames₂ staging₂ : List
       record {
         refusalAlike = p .refusalIs ∙ sym (q .refusalIs);
         placeAlike = p .placeIs ∙ sym (q .placeIs);
-        answerAlike = λ z. absurd (omega (arith, p .refusalIs, z, stops-number log home (length frames₁) (length staging₁) refusal place e));
+        answerAlike = λ z. absurd (open-refusals log home (length frames₁) (length staging₁) refusal place e .0 (sym (p .refusalIs) ∙ z));
         contentsAlike = λ staging. ap (λ (s : State). contentsOf s staging) (p .stateIs ∙ sym (q .stateIs));
         dirtyAlike = λ page.
             ap (λ (s : State). lookUp page (dirtyOf s frames₁′)) (p .stateIs) ∙ zero-looks frames₁′ page

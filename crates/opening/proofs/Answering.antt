@@ -11,24 +11,23 @@ use Rattle.block.proofs.Tests.{tests}
 use Rattle.promises.specs.declared.State.{State}
 use Rattle.promises.specs.declared.Opened.the-variants.{Settled}
 use Rattle.promises.specs.declared.OpenOutcome.{OpenOutcome}
-use Rattle.promises.specs.Areas.{pageAt, slotsIn, pagesIn, framesIn}
+use Rattle.promises.specs.Areas.{slotsIn, pagesIn, framesIn}
 use Rattle.promises.specs.Answers.{openRefusalIn, placeIn}
-use Rattle.promises.specs.Blocks.{slotsOf}
 use Rattle.promises.specs.Contents.{contentsOf, dirtyOf, allZeroState, grouped}
 use Rattle.promises.specs.DirtyPages.{DirtyPage, lookUp}
-use Rattle.promises.specs.Newest.{Gathered, missing, blocks, gathered, newest}
+use Rattle.promises.specs.Newest.{newest}
 use Rattle.promises.specs.Sums.{firstGroups, smallest}
 use Rattle.promises.specs.Sound.{sound, allBelow, dirtyNumbers}
-use Rattle.promises.specs.Walk.{Walk as PaperWalk, stops, stands, finding, walkGathered}
+use Rattle.promises.specs.Walk.{Walk as PaperWalk, stops, stands, finding}
 use Rattle.promises.specs.Open.{lengthsFit, openFinding, opened, OpenStops, OpenStands, Opens}
 use Rattle.promises.proofs.Soundness.{Sound, of-sound}
+use Rattle.promises.proofs.OpenFindings.{finding-refusals}
 use Rattle.table.specs.Table.{Holds, Each}
 use Rattle.table.proofs.Entries.{within-most}
 use Rattle.table.proofs.Holding.{held-below, Below}
 use Rattle.recovery.specs.Walking.{Early}
 use Rattle.opening.specs.Findings.{FoundWalk, Accepts, Finds}
 use Rattle.opening.specs.States.{idleState}
-use Rattle.opening.proofs.Ending.{walk-refusals}
 
 -- ---- the lengths
 
@@ -56,20 +55,7 @@ lengths-told log home frames staging h =
       framesMost = omega arith;
     }
 
--- ---- what an opening can be refused with: 7, 8 or 9
-
-gathered-refusals : (count frames : ℕ) (home : ℕ → List ℕ) (slots : List Rattle.promises.specs.Blocks.Slot) (g : Gathered) (refusal place : ℕ)
-    → walkGathered count frames home slots g ≡ stops refusal place → (7 ≤ refusal) × (refusal ≤ 9)
-gathered-refusals count frames home slots (missing s) refusal place e = let z : 7 ≡ refusal = cc in (omega arith, omega arith)
-gathered-refusals count frames home slots (blocks list) refusal place e =
-    let r = walk-refusals count frames home _ _ list _ refusal place e in
-    (omega (arith, r .0), r .1)
-
-pub finding-refusals : (slots pages frames : ℕ) (log home : List ℕ) (refusal place : ℕ) → finding slots pages frames log home ≡ stops refusal place
-    → (7 ≤ refusal) × (refusal ≤ 9)
-unfolding finding
-finding-refusals slots pages frames log home refusal place e =
-    gathered-refusals slots frames (pageAt home) (slotsOf slots pages log) (gathered slots (slotsOf slots pages log)) refusal place e
+-- ---- what an opening is refused with
 
 module _ (log home : List ℕ) (count : ℕ) (found : FoundWalk) (frames : List ℕ) (slots pages : ℕ)
     (x : Finds log home count (finding slots pages count log home) found frames) where

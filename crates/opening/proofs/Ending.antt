@@ -2,8 +2,8 @@
 -- Assumes nothing.
 use mathlib.Core.Path.{_≡_, refl, sym, ap, _∙_, subst}
 use mathlib.Core.Bool.{Bool, true, false, cond}
-use mathlib.Core.List.{List, [], _∷_}
-use Prim.Native.Nat.{ℕ, suc, _+_, _-_, _≤_, _<_}
+use mathlib.Core.List.{List}
+use Prim.Native.Nat.{ℕ, _+_, _-_, _≤_, _<_}
 use native.Mathlib.Omega.{arith}
 use native.Mathlib.Decide.{ℕ-discrete}
 use lib.Dec.{leb}
@@ -11,9 +11,8 @@ use lib.ListN.{length, replicate}
 use Rattle.block.proofs.Tests.{by-cases}
 use Rattle.block.specs.Sizes.{sequenceEnd}
 use Rattle.promises.specs.Areas.{pageAt, slotsIn}
-use Rattle.promises.specs.Blocks.{LogBlock}
 use Rattle.promises.specs.DirtyPages.{keepFromOf}
-use Rattle.promises.specs.Walk.{Walk as PaperWalk, Finding, stops, stands, ending, walkFrom, startWith, inOrder, framed, walkBlock}
+use Rattle.promises.specs.Walk.{Walk as PaperWalk, Finding, stops, stands, ending, walkFrom, startWith}
 use Rattle.table.specs.declared.Table.{Table}
 use Rattle.table.proofs.Holding.{empty-holds, held-count, held-keep}
 use Rattle.table.proofs.Seating.{seated-empty}
@@ -126,22 +125,6 @@ module _ (log home : List ℕ) (last : ℕ) (walk : Walk) (frames : List ℕ) (f
         | no n ↦ subst (λ (w : Walk). Finds log home (walk .table .count) found (record { newest = last; walk = w }) frames) (tested-not N last walk n)
             record { countIs = refl; refused = λ m. l .refused n; accepted = λ y. absurd (n y) }
       ])
-
--- ---- what a walk can be refused with: 8 or 9
-
-pub walk-refusals : (slots frames : ℕ) (home : ℕ → List ℕ) (next s : ℕ) (bs : List LogBlock) (walk : PaperWalk) (refusal place : ℕ)
-    → walkFrom slots frames home next s bs walk ≡ stops refusal place → (8 ≤ refusal) × (refusal ≤ 9)
-unfolding walkFrom
-walk-refusals slots frames home next s [] walk refusal place e =
-    by-cases (leb (next - keepFromOf next (walk .dirtyPages) + length (walk .dirtyPages)) slots)
-    (λ f. let h : stands next walk ≡ stops refusal place = rw f at e in let z : _≡_ {A = ℕ} 0 1 = cc in absurd (omega arith))
-    (λ f. let h : stops 8 (next - 1) ≡ stops refusal place = rw f at e in let z : 8 ≡ refusal = cc in (omega arith, omega arith))
-walk-refusals slots frames home next s (b ∷ bs) walk refusal place e =
-    by-cases (inOrder (b .kind) (b .ticket) walk)
-    (λ f. by-cases (framed frames home (b .kind) walk)
-    (λ g. walk-refusals slots frames home next (suc s) bs (walkBlock home s (b .kind) walk) refusal place (rw (f, g) at e))
-    (λ g. let h : stops 9 s ≡ stops refusal place = rw (f, g) at e in let z : 9 ≡ refusal = cc in (omega arith, omega arith)))
-    (λ f. let h : stops 8 s ≡ stops refusal place = rw f at e in let z : 8 ≡ refusal = cc in (omega arith, omega arith))
 
 -- ---- from start to end
 

@@ -5,13 +5,12 @@ use mathlib.Core.Bool.{Bool, true, false, cond}
 use Prim.Native.Nat.{ℕ, _-_, _≤_}
 use mathlib.Core.List.{List, [], _∷_, _++_, map}
 use native.Mathlib.Omega.{arith}
-use lib.ListN.{length, drop, length-take, length-drop, length-map}
+use lib.ListN.{length, drop, length-drop, length-map}
 use lib.Seq.{length-take-le}
 use Rattle.promises.specs.declared.State.{State}
 use Rattle.promises.specs.declared.Cleaning.{Cleaning}
 use Rattle.promises.specs.Updates.{Update}
-use Rattle.promises.specs.DirtyPages.{keepFromOf}
-use Rattle.promises.specs.Contents.{Contents, contentsOf, dirtyOf, groupsOf, grouped, queueOf, listOf, waiting, total}
+use Rattle.promises.specs.Contents.{Contents, contentsOf, dirtyOf, groupsOf, grouped, queueOf, waiting, total}
 use Rattle.promises.specs.Sums.{firstGroups, halfStarts, smallest, dirtyCount, heldSlots}
 use Rattle.promises.specs.Sound.{sound}
 use Rattle.promises.specs.declared.Cleaning.the-variants.{Idle, First, Second, Third}
@@ -26,8 +25,9 @@ use Rattle.promises.specs.Events.{World}
 use Rattle.promises.specs.Alike.{Alike}
 use Rattle.promises.proofs.Soundness.{Sound, sound-of}
 use Rattle.promises.proofs.Changes.{held-is}
-use Rattle.promises.proofs.SoundFacts.{length-dirty, keepFrom-dirty, distinct-dirty}
-use Rattle.promises.proofs.SameDirty.{Same, same-sums}
+use Rattle.promises.proofs.SoundFacts.{length-dirty, keepFrom-dirty, distinct-dirty, length-list, length-queue}
+use Rattle.promises.proofs.History.WalkStart.{Distinct}
+use Rattle.promises.proofs.SameDirty.{Same, same-count, same-keep}
 
 -- the sizes of the queued groups are those of the queue's lists
 sizes-of : (ns : List ℕ) (us : List Update) → total ns ≤ length us → map length (grouped ns us) ≡ ns
@@ -41,15 +41,6 @@ module _ (s : State) (f : Sound s) (staging : List ℕ) where
   groups-are : map length (queueOf s staging) ≡ groupsOf s
   groups-are = sizes-of (groupsOf s) (map (waiting staging) (s .staged)) (omega (arith, length-map (s .staged) (waiting staging), f .staged))
 
-  queued-is : length (groupsOf s) ≡ s .queued
-  queued-is = length-take-le (s .queued) (s .groups) (f .queued)
-
-  pub length-queue-is : length (queueOf s staging) ≡ s .queued
-  length-queue-is = sym (length-map (queueOf s staging) length) ∙ ap length groups-are ∙ queued-is
-
-  pub described-is : length (listOf s staging) ≡ s .described
-  described-is = let g = f .staged in simp (length-take, length-drop, length-map) (omega arith)
-
 -- two sound states that say the same
 module _ (s t : State) (x y frames frames′ : List ℕ) (f : Sound s) (g : Sound t) (e : contentsOf s x ≡ contentsOf t y)
     (d : Same (dirtyOf s frames) (dirtyOf t frames′)) where
@@ -57,21 +48,24 @@ module _ (s t : State) (x y frames frames′ : List ℕ) (f : Sound s) (g : Soun
   groups-same = sym (groups-are s f x) ∙ ap (λ (c : Contents). map length (c .queue)) e ∙ groups-are t g y
 
   queued-same : s .queued ≡ t .queued
-  queued-same = sym (queued-is s f x) ∙ ap length groups-same ∙ queued-is t g y
+  queued-same = sym (length-queue s x (f .queued)) ∙ ap (λ (c : Contents). length (c .queue)) e ∙ length-queue t y (g .queued)
 
   described-same : s .described ≡ t .described
-  described-same = sym (described-is s f x) ∙ ap (λ (c : Contents). length (c .list)) e ∙ described-is t g y
+  described-same = sym (length-list s x (f .staged)) ∙ ap (λ (c : Contents). length (c .list)) e ∙ length-list t y (g .staged)
 
-  dirty-same : (n : ℕ) → (length (dirtyOf s frames) ≡ length (dirtyOf t frames′)) × (keepFromOf n (dirtyOf s frames) ≡ keepFromOf n (dirtyOf t frames′))
-  dirty-same n = same-sums n (dirtyOf s frames) (dirtyOf t frames′) d (distinct-dirty frames 0 (s .dirty) (f .distinctPages)) (distinct-dirty frames′ 0 (t .dirty) (g .distinctPages))
+  abbrev once : Distinct (dirtyOf s frames)
+  once = distinct-dirty frames 0 (s .dirty) (f .distinctPages)
+
+  abbrev once′ : Distinct (dirtyOf t frames′)
+  once′ = distinct-dirty frames′ 0 (t .dirty) (g .distinctPages)
 
   count-same : dirtyCount s ≡ dirtyCount t
-  count-same = sym (length-dirty frames 0 (s .dirty)) ∙ dirty-same 0 .0 ∙ length-dirty frames′ 0 (t .dirty)
+  count-same = sym (length-dirty frames 0 (s .dirty)) ∙ same-count (dirtyOf t frames′) (dirtyOf s frames) once′ once d ∙ length-dirty frames′ 0 (t .dirty)
 
   held-same : heldSlots s ≡ heldSlots t
   held-same =
       let k : smallest (s .next - s .stored) (firstGroups (s .dirty)) ≡ smallest (s .next - s .stored) (firstGroups (t .dirty)) =
-      sym (keepFrom-dirty (s .next - s .stored) frames 0 (s .dirty)) ∙ dirty-same (s .next - s .stored) .1 ∙ keepFrom-dirty (s .next - s .stored) frames′ 0 (t .dirty) in
+      sym (keepFrom-dirty (s .next - s .stored) frames 0 (s .dirty)) ∙ same-keep (s .next - s .stored) (dirtyOf t frames′) (dirtyOf s frames) once′ once d ∙ keepFrom-dirty (s .next - s .stored) frames′ 0 (t .dirty) in
       let a : smallest (s .next) (halfStarts s ++ firstGroups (s .dirty)) ≡ smallest (t .next) (halfStarts t ++ firstGroups (t .dirty)) =
       held-is s ∙ k ∙ ap (λ (c : Contents). smallest (c .next - c .stored) (firstGroups (t .dirty))) e ∙ sym (held-is t) in
       ap (λ (n : ℕ). s .next - n) a ∙ ap (λ (c : Contents). c .next - smallest (t .next) (halfStarts t ++ firstGroups (t .dirty))) e

@@ -7,10 +7,11 @@ use Prim.Native.Nat.{ℕ, _+_, _*_, _-_, _≤_, _<_}
 use mathlib.Core.List.{List, [], _∷_}
 use native.Mathlib.Omega.{arith}
 use lib.ListN.{length, getD}
-use lib.Dec.{eqb, leb, ltb}
-use borrow.Author.Tests.{leb-true, eqb-true, eqb-false, eq-eqb, ne-eqb}
+use lib.Dec.{eqb, leb}
+use borrow.Author.Tests.{eqb-false}
 use Rattle.area.proofs.Parts.{either, length-splice}
 use Rattle.block.specs.Legal.{legalPlace}
+use Rattle.block.proofs.Tests.{tests}
 use Rattle.promises.specs.declared.State.{State}
 use Rattle.promises.specs.declared.Cleaning.{Cleaning}
 use Rattle.promises.specs.declared.Cleaning.the-variants.{Idle, First, Second, Third}
@@ -38,18 +39,19 @@ use Rattle.promises.specs.Events.{World, Reply, refuses, shows, answered
 use Rattle.promises.specs.Events as events
 use Rattle.promises.specs.Alike.{Alike}
 use Rattle.promises.proofs.Soundness.{sound-of}
-use Rattle.promises.proofs.SoundFacts.{and-left, and-right, distinct-dirty}
-use Rattle.promises.proofs.Changes.{pick-zero, pick-other}
+use Rattle.promises.proofs.SoundFacts.{distinct-dirty, length-queue}
+use Rattle.promises.proofs.Changes.{pick-zero, pick-other, describe-passed}
 use Rattle.promises.proofs.LogSteps.{keep-applied}
 use Rattle.promises.proofs.Demand3.{not-sound}
 use Rattle.promises.proofs.History.Sees.{by-eq}
 use Rattle.promises.proofs.History.WalkStart.{distinct-without}
-use Rattle.promises.proofs.Replies.{open-refused-reply, standing-refused-reply}
+use Rattle.promises.proofs.Replies.{open-refused-reply, standing-refused-reply, read-refused-reply, read-accepted-reply}
 use Rattle.promises.proofs.RefusedCalls.{Refuses, begin-refused, describe-refused, end-refused, log-refused, clean-refused}
 use Rattle.promises.proofs.CleaningOrder.{order-antisymmetric}
-use Rattle.promises.proofs.SameDirty.{same-at, same-sums, same-without, same-all}
-use Rattle.promises.proofs.AlikeRefusals.{queued-alike, length-queue-is, begin-alike, describe-alike, end-alike, log-alike, clean-alike, read-alike, settled-alike}
-use Rattle.promises.proofs.OpenFindings.{Proper, proper, proper-number}
+use Rattle.promises.proofs.SameDirty.{same-keep, same-without, same-all}
+use Rattle.promises.proofs.Table.{same-at}
+use Rattle.promises.proofs.AlikeRefusals.{queued-alike, begin-alike, describe-alike, end-alike, log-alike, clean-alike, read-alike, settled-alike}
+use Rattle.promises.proofs.OpenFindings.{open-refusals}
 
 -- ---- worlds that are alike
 -- a fall leaves worlds alike whose logs and homes are the same
@@ -96,7 +98,7 @@ opening-alike w v al f s f′ s′ lf ls a b w′ v′ st st′ = go (openFindin
     go (stops n j) q =
         let o = st .promise .refused n j q in
         let o′ = st′ .promise .refused n j (sym same ∙ q) in
-        let nz : n ≡ 0 → ⊥ = proper-number (subst Proper q (proper (w .log) (w .home) (length f) (length s))) .0 in (
+        let nz : n ≡ 0 → ⊥ = open-refusals (w .log) (w .home) (length f) (length s) n j q .0 in (
           st .replyIs ∙ open-refused-reply (st .result .answer) n (o .refusalIs) nz ∙ sym (st′ .replyIs ∙ open-refused-reply (st′ .result .answer) n (o′ .refusalIs) nz),
           stay (fallen w (st .frames′) s) (fallen v (st′ .frames′) s′) w′ v′
               (fall-alike w v (st .frames′) s (st′ .frames′) s′ (al .logIs) (al .homeIs))
@@ -171,16 +173,8 @@ module _ (w v : World) (al : Alike w v) where
       inside : (F area : ℕ) → area < F → area * 472 + 472 ≤ F * 472
       inside F area h = omega arith
 
-  passed : (u : Update) (y : State) (n : ℕ) → describeRefusal y n (u .page) (u .offset) (length (u .bytes)) ≡ 0
-      → (sound y ≡ true) × (n ≡ y .frames * 472) × (length (u .bytes) ≤ 472)
-  unfolding describeRefusal
-  passed u y n e =
-      let c2 = pick-zero (sound y) _ 2 (omega arith) e in
-      let c1 = pick-zero (eqb n (y .frames * 472)) _ 1 (omega arith) (c2 .1) in
-      let c4 = pick-other (eqb (y .reserved) 0) _ 4 (omega arith) (c1 .1) in
-      let c3 = pick-zero (legalPlace (y .pages) (u .page) (u .offset) (length (u .bytes))) _ 3 (omega arith) (c4 .1) in
-      let c = and-left (leb (u .offset + length (u .bytes)) 1024) (c3 .0) in
-      (c2 .0, eqb-true _ _ (c1 .0), leb-true _ _ (and-right (ltb (u .page) (y .pages) && leb 1 (length (u .bytes))) c))
+  legal-short : (pages page offset count : ℕ) → legalPlace pages page offset count ≡ true → count ≤ 472
+  legal-short pages page offset count h = let l = simp tests at h in omega arith
 
   pub describing-alike : (u : Update) (a b : Reply) (w′ v′ : World) → Describing w u a w′ → Describing v u b v′ → (a ≡ b) × Alike w′ v′
   describing-alike u a b w′ v′ st st′ = by-refusal (describeRefusal s (length (w .staging)) (u .page) (u .offset) (length (u .bytes)))
@@ -188,10 +182,11 @@ module _ (w v : World) (al : Alike w v) where
       (λ e f.
       let p = st .promise .accepted e in
       let p′ = st′ .promise .accepted f in
-      let r = passed u s (length (w .staging)) e in
-      let r′ = passed u t (length (v .staging)) f in
-      let l : length (st .staging′) ≡ length (w .staging) = ap length (p .stagingIs) ∙ staged-long (s .frames) (p .area) (w .staging) (u .bytes) (r .1) (p .areaBelow) (r .2) in
-      let l′ : length (st′ .staging′) ≡ length (v .staging) = ap length (p′ .stagingIs) ∙ staged-long (t .frames) (p′ .area) (v .staging) (u .bytes) (r′ .1) (p′ .areaBelow) (r′ .2) in (
+      let r = describe-passed s (length (w .staging)) (u .page) (u .offset) (length (u .bytes)) e in
+      let r′ = describe-passed t (length (v .staging)) (u .page) (u .offset) (length (u .bytes)) f in
+      let short : length (u .bytes) ≤ 472 = legal-short (s .pages) (u .page) (u .offset) (length (u .bytes)) (r .3) in
+      let l : length (st .staging′) ≡ length (w .staging) = ap length (p .stagingIs) ∙ staged-long (s .frames) (p .area) (w .staging) (u .bytes) (r .1) (p .areaBelow) short in
+      let l′ : length (st′ .staging′) ≡ length (v .staging) = ap length (p′ .stagingIs) ∙ staged-long (t .frames) (p′ .area) (v .staging) (u .bytes) (r′ .1) (p′ .areaBelow) short in (
         st .replyIs ∙ ap answered (p .answerIs ∙ sym (p′ .answerIs)) ∙ sym (st′ .replyIs),
         rw (st .after, st′ .after) (leaves-alike (r .0) (st .result .state) (st′ .result .state) (st .staging′) (st′ .staging′) (λ (c : Contents). described c u)
             (p .leaves) (p′ .leaves) (l ∙ al .stagingLong (r .0) ∙ sym l′)),
@@ -200,8 +195,8 @@ module _ (w v : World) (al : Alike w v) where
 
   -- ---- Log step
   keep-alike : sound s ≡ true → (n : ℕ) → keepFromOf n (dirtyOf s (w .frames)) ≡ keepFromOf n (dirtyOf t (v .frames))
-  keep-alike so n = same-sums n (dirtyOf s (w .frames)) (dirtyOf t (v .frames)) (al .dirtyAre)
-      (distinct-dirty (w .frames) 0 (s .dirty) (sound-of s so .distinctPages)) (distinct-dirty (v .frames) 0 (t .dirty) (sound-of t (sym (al .soundIs) ∙ so) .distinctPages)) .1
+  keep-alike so n = same-keep n (dirtyOf t (v .frames)) (dirtyOf s (w .frames))
+      (distinct-dirty (v .frames) 0 (t .dirty) (sound-of t (sym (al .soundIs) ∙ so) .distinctPages)) (distinct-dirty (w .frames) 0 (s .dirty) (sound-of s so .distinctPages)) (al .dirtyAre)
 
   start-alike : groupStart s ≡ groupStart t
   start-alike = ap (λ (c : Contents). c .next - c .stored) (al .contentsAre)
@@ -221,7 +216,7 @@ module _ (w v : World) (al : Alike w v) where
       let c2 = pick-zero (sound s) _ 2 (omega arith) e in
       let c1 = pick-zero (areasFit s (length (w .log)) (length (w .home)) (length (w .frames)) && eqb (length (w .staging)) (s .frames * 472)) _ 1 (omega arith) (c2 .1) in
       let c10 = pick-other (eqb (s .queued) 0) _ 10 (omega arith) (c1 .1) in
-      go e f (c2 .0) (eqb-false _ _ (c10 .0)) (length-queue-is s (sound-of s (c2 .0)) (w .staging)) (queueOf s (w .staging)) refl)
+      go e f (c2 .0) (eqb-false _ _ (c10 .0)) (length-queue s (w .staging) (sound-of s (c2 .0) .queued)) (queueOf s (w .staging)) refl)
       (λ m n. both-refused w v w′ v′ a b _ _ al (log-alike w v al) (log-refused w w′ a st m) (log-refused v v′ b st′ n))
     where
       stored-same : s .stored ≡ t .stored
@@ -319,7 +314,7 @@ module _ (w v : World) (al : Alike w v) where
       let d′ = distinct-without p (dirtyOf t (v .frames)) (distinct-dirty (v .frames) 0 (t .dirty) (sound-of t (sym (al .soundIs) ∙ so) .distinctPages)) in
       let same = same-without p (dirtyOf s (w .frames)) (dirtyOf t (v .frames)) (al .dirtyAre) in
       let k : keepFromOf (s .next) (without p (dirtyOf s (w .frames))) ≡ keepFromOf (s .next) (without p (dirtyOf t (v .frames))) =
-      same-sums (s .next) (without p (dirtyOf s (w .frames))) (without p (dirtyOf t (v .frames))) same d d′ .1 in
+      same-keep (s .next) (without p (dirtyOf t (v .frames))) (without p (dirtyOf s (w .frames))) d′ d same in
       record {
         log =
             ap (λ (n : ℕ). stored (s .slots) (w .log) (s .next) (record { kind = clean p; keepFrom = n; ticket = s .ticket })) k
@@ -337,16 +332,16 @@ module _ (w v : World) (al : Alike w v) where
       let so : sound s ≡ true = pick-zero (sound s) _ 2 (omega arith) e .0 in
       let u = st .promise .accepted e in
       let u′ = st′ .promise .accepted f in
-      let cl : t .cleaning ≡ s .cleaning = ap (λ (c : Contents). c .cleaning) (sym (al .contentsAre)) in
-      let pg : u .page ≡ u′ .page = page-alike (s .cleaning) (u .page) (u′ .page) (u .entry) (u′ .entry) (u .found) (u′ .found) (u .takes)
-      (subst (λ (c : Cleaning). Takes c (dirtyOf t (v .frames)) (u′ .page) (u′ .entry)) cl (u′ .takes)) in
-      let en : u .entry ≡ u′ .entry = same-at (sym (u .found) ∙ ap (λ (p : ℕ). lookUp p (dirtyOf s (w .frames))) pg ∙ al .dirtyAre (u′ .page) ∙ u′ .found) in
+      let sameCleaning : t .cleaning ≡ s .cleaning = ap (λ (c : Contents). c .cleaning) (sym (al .contentsAre)) in
+      let samePage : u .page ≡ u′ .page = page-alike (s .cleaning) (u .page) (u′ .page) (u .entry) (u′ .entry) (u .found) (u′ .found) (u .takes)
+      (subst (λ (c : Cleaning). Takes c (dirtyOf t (v .frames)) (u′ .page) (u′ .entry)) sameCleaning (u′ .takes)) in
+      let sameEntry : u .entry ≡ u′ .entry = same-at (sym (u .found) ∙ ap (λ (p : ℕ). lookUp p (dirtyOf s (w .frames))) samePage ∙ al .dirtyAre (u′ .page) ∙ u′ .found) in
       let k : Stores (s .cleaning) (u .page) (u .entry) = stores-alike so (s .cleaning) (u .page) (u .entry) in
       let turned : (x : List ℕ) → cleanStore (s .cleaning) t (v .log) (v .home) (dirtyOf t (v .frames)) (contentsOf t x) (u .page) (u .entry)
       ≡ cleanStore (t .cleaning) t (v .log) (v .home) (dirtyOf t (v .frames)) (contentsOf t x) (u′ .page) (u′ .entry) =
-      λ x. ap (λ (c : Cleaning). cleanStore c t (v .log) (v .home) (dirtyOf t (v .frames)) (contentsOf t x) (u .page) (u .entry)) (sym cl)
-      ∙ ap (λ (p : ℕ). cleanStore (t .cleaning) t (v .log) (v .home) (dirtyOf t (v .frames)) (contentsOf t x) p (u .entry)) pg
-      ∙ ap (λ (y : DirtyPage). cleanStore (t .cleaning) t (v .log) (v .home) (dirtyOf t (v .frames)) (contentsOf t x) (u′ .page) y) en in (
+      λ x. ap (λ (c : Cleaning). cleanStore c t (v .log) (v .home) (dirtyOf t (v .frames)) (contentsOf t x) (u .page) (u .entry)) (sym sameCleaning)
+      ∙ ap (λ (p : ℕ). cleanStore (t .cleaning) t (v .log) (v .home) (dirtyOf t (v .frames)) (contentsOf t x) p (u .entry)) samePage
+      ∙ ap (λ (y : DirtyPage). cleanStore (t .cleaning) t (v .log) (v .home) (dirtyOf t (v .frames)) (contentsOf t x) (u′ .page) y) sameEntry in (
         st .replyIs ∙ ap answered (u .answerIs ∙ sym (u′ .answerIs)) ∙ sym (st′ .replyIs),
         rw (st .after, st′ .after) (record {
           logIs = u .logIs ∙ k .log ∙ ap (λ (x : Store). x .log) (turned []) ∙ sym (u′ .logIs);
@@ -379,18 +374,12 @@ module _ (w v : World) (al : Alike w v) where
           ∙ ap (λ (x : List ℕ). shown (lookUp p (dirtyOf t x)) (pageAt (now (st′ .home)) p)) (sym (st′ .framesAre))
           ∙ sym (st′ .promise .bytesAre f)
 
-      zero-reply : (n : ℕ) (x : List ℕ) → n ≡ 0 → readAnswered n x ≡ shows x
-      zero-reply n x e = simp (eq-eqb n 0 e)
-
-      other-reply : (n : ℕ) (x : List ℕ) → (n ≡ 0 → ⊥) → readAnswered n x ≡ refuses n
-      other-reply n x e = simp (ne-eqb n 0 e)
-
       reply : readAnswered (st .number) (now (st .result)) ≡ readAnswered (st′ .number) (now (st′ .result))
       reply =
           ap (λ (n : ℕ). readAnswered n (now (st .result))) (st .promise .refusal)
           ∙ by-refusal (readRefusalOf s (now (st .home)) (now (st .frames)) p) (readRefusalOf t (now (st′ .home)) (now (st′ .frames)) p) numbers
-          (λ e f. zero-reply _ (now (st .result)) e ∙ ap shows (bytes e f) ∙ sym (zero-reply _ (now (st′ .result)) f))
-          (λ e f. other-reply _ (now (st .result)) e ∙ ap refuses numbers ∙ sym (other-reply _ (now (st′ .result)) f))
+          (λ e f. read-accepted-reply _ (now (st .result)) e ∙ ap shows (bytes e f) ∙ sym (read-accepted-reply _ (now (st′ .result)) f))
+          (λ e f. read-refused-reply _ (now (st .result)) e ∙ ap refuses numbers ∙ sym (read-refused-reply _ (now (st′ .result)) f))
           ∙ ap (λ (n : ℕ). readAnswered n (now (st′ .result))) (sym (st′ .promise .refusal))
 
   -- ---- Settled

@@ -26,6 +26,8 @@ use Rattle.promises.specs.Sums.{blockCount, firstGroups, halfStarts, sma
 use Rattle.promises.specs.Sound.{dirtyNumbers, names, stagedOf, areasOf, allBelow, allLegal, distinct, sizesLegal, ofOldest, sound}
 use Rattle.promises.specs.Begin.{beginRefusal, beginInRange, beginHasRoom, Begins}
 use Rattle.promises.specs.Book.{begun, ended}
+use Rattle.promises.specs.Describe.{describeRefusal}
+use Rattle.block.specs.Legal.{legalPlace}
 use Rattle.promises.specs.End.{endRefusal, Ends}
 use Rattle.promises.specs.Leaves.{Leaves}
 use Rattle.promises.specs.Blocks.{stored}
@@ -41,6 +43,18 @@ pick-zero false x k h e = absurd (omega arith)
 pub pick-other : (b : Bool) (x k : ℕ) → 0 < k → cond b k x ≡ 0 → (b ≡ false) × (x ≡ 0)
 pick-other true x k h e = absurd (omega arith)
 pick-other false x k h e = (refl, e)
+
+-- what an accepted Describe passed: soundness, the length, an open transaction, a legal place, an update that is left
+pub describe-passed : (s : State) (staging page offset count : ℕ) → describeRefusal s staging page offset count ≡ 0
+    → (sound s ≡ true) × (staging ≡ s .frames * 472) × (s .reserved ≡ 0 → ⊥) × (legalPlace (s .pages) page offset count ≡ true) × (s .described < s .reserved)
+unfolding describeRefusal
+describe-passed s staging page offset count e =
+    let c2 = pick-zero (sound s) _ 2 (omega arith) e in
+    let c1 = pick-zero (eqb staging (s .frames * 472)) _ 1 (omega arith) (c2 .1) in
+    let c4 = pick-other (eqb (s .reserved) 0) _ 4 (omega arith) (c1 .1) in
+    let c3 = pick-zero (legalPlace (s .pages) page offset count) _ 3 (omega arith) (c4 .1) in
+    let c5 = pick-zero (ltb (s .described) (s .reserved)) 0 5 (omega arith) (c3 .1) in
+    (c2 .0, eqb-true _ _ (c1 .0), eqb-false _ _ (c4 .0), c3 .0, ltb-true _ _ (c5 .0))
 
 -- ---- Begin
 abbrev pub opened : State → ℕ → State

@@ -9,7 +9,7 @@ use native.Mathlib.Nat.{zero-add, suc-add}
 use lib.ListN.{length, take, drop, set, length-set, length-take, length-map}
 use lib.Seq.{take-set-le, take-suc-set, take-add, drop-at, take-at, take-take, take-all, length-take-le}
 use lib.Dec.{eqb, leb, ltb}
-use borrow.Author.Tests.{leb-true, ltb-true, eqb-true, eqb-false, le-leb, lt-ltb, ne-eqb}
+use borrow.Author.Tests.{leb-true, eqb-false, le-leb, lt-ltb, ne-eqb}
 use Rattle.promises.specs.declared.State.{State}
 use Rattle.promises.specs.declared.Staged.{Staged}
 use Rattle.promises.specs.declared.Outcome.{Outcome}
@@ -24,7 +24,7 @@ use Rattle.promises.specs.Sums.{openOnes}
 use Rattle.promises.specs.Describe.{describeRefusal, Describes}
 use Rattle.promises.specs.Book.{described}
 use Rattle.promises.proofs.Soundness.{and-both, and2, Sound, sound-of, of-sound}
-use Rattle.promises.proofs.Changes.{pick-zero, pick-other}
+use Rattle.promises.proofs.Changes.{describe-passed}
 use Rattle.area.proofs.Parts.{part-same, part-before, part-after, length-splice, either}
 
 -- one update more, in the place after those that wait
@@ -217,21 +217,16 @@ pub describe-met : (s : State) (page offset area : ℕ) (bytes staging : List �
     → Describes s (record { page = page; offset = offset; bytes = bytes }) staging
     (record { state = added s (record { page = page; offset = offset; length = length bytes; area = area }); answer = Done })
     (withStaged staging area (length bytes) bytes)
-unfolding describeRefusal
 describe-met s page offset area bytes staging l32 e below free =
     let u : Staged = record { page = page; offset = offset; length = length bytes; area = area } in
-    let c2 = pick-zero (sound s) _ 2 (omega arith) e in
-    let c1 = pick-zero (eqb (length staging) (s .frames * 472)) _ 1 (omega arith) (c2 .1) in
-    let c4 = pick-other (eqb (s .reserved) 0) _ 4 (omega arith) (c1 .1) in
-    let c3 = pick-zero (legalPlace (s .pages) page offset (length bytes)) _ 3 (omega arith) (c4 .1) in
-    let c5 = pick-zero (ltb (s .described) (s .reserved)) 0 5 (omega arith) (c3 .1) in
-    let f : Sound s = sound-of s (c2 .0) in
-    let nz : s .reserved ≡ 0 → ⊥ = eqb-false _ _ (c4 .0) in
+    let r = describe-passed s (length staging) page offset (length bytes) e in
+    let f : Sound s = sound-of s (r .0) in
+    let nz : s .reserved ≡ 0 → ⊥ = r .2 in
     let o : total (openOnes s) ≡ s .reserved = ap total (one (s .reserved) nz) ∙ omega arith in
-    let more : s .described < s .reserved = ltb-true _ _ (c5 .0) in
+    let more : s .described < s .reserved = r .4 in
     let room : total (groupsOf s) + s .described < length (s .staged) = omega (arith, f .frameSum, f .frames, o) in
-    let lent : length staging ≡ s .frames * 472 = eqb-true _ _ (c1 .0) in
-    let so : sound (added s u) ≡ true = of-sound (added s u) (sound-added s f u room free below (c3 .0) more) in
+    let lent : length staging ≡ s .frames * 472 = r .1 in
+    let so : sound (added s u) ≡ true = of-sound (added s u) (sound-added s f u room free below (r .3) more) in
     record {
       refusal = sym e;
       refused = λ x. absurd (x e);
@@ -243,7 +238,7 @@ describe-met s page offset area bytes staging l32 e below free =
         answerIs = refl;
         leaves = record {
           staysSound = so;
-          contentsAre = rw (queue-same s f u room free below (c3 .0) more staging bytes refl lent, list-more s f u room free below (c3 .0) more staging bytes refl lent) refl;
+          contentsAre = rw (queue-same s f u room free below (r .3) more staging bytes refl lent, list-more s f u room free below (r .3) more staging bytes refl lent) refl;
           dirtyAre = λ frames p. refl;
         };
       };

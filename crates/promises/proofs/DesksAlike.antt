@@ -9,7 +9,7 @@ use mathlib.Core.List.{List, [], _∷_}
 use native.Mathlib.Omega.{arith}
 use lib.ListN.{length, replicate}
 use lib.Dec.{eqb, leb, ltb}
-use borrow.Author.Tests.{eqb-false, eq-eqb, ne-eqb, le-leb}
+use borrow.Author.Tests.{eqb-false, eq-eqb, le-leb}
 use Rattle.block.specs.Sizes.{sequenceEnd}
 use Rattle.block.specs.Legal.{legalPlace}
 use Rattle.promises.specs.declared.State.{State}
@@ -47,10 +47,8 @@ use Rattle.promises.specs.Events.{
   Reply,
   refuses,
   settles,
-  shows,
   accepts,
   openAnswered,
-  readAnswered,
   Step,
   Lent,
   leftBy,
@@ -59,11 +57,10 @@ use Rattle.promises.specs.Events.{
 use Rattle.promises.specs.Claim.{Steps, entered, cutAt, both, Run, formatted, called, unfit, cut, cutUnfit, foundBy}
 use Rattle.promises.specs.Alike.{Alike, asked, Event, calls, callsUnfit, cuts, cutsUnfit, eventsOf, repliesOf, SameDesk, CallsAlike, DesksAlike}
 use Rattle.promises.proofs.Ranges.{Ranged, ranged}
-use Rattle.promises.proofs.Replies.{no-accept, refused-number, end-refused-number, log-refused-number, standing-refused-number, open-refused-reply}
+use Rattle.promises.proofs.Replies.{no-accept, refused-number, end-refused-number, log-refused-number, standing-refused-number, read-refused-number, open-refused-reply}
 use Rattle.promises.proofs.Demand3.{Unfit, unfit-state}
 use Rattle.promises.proofs.Refines.{Refines}
-use Rattle.promises.proofs.History.Sees.{by-eq}
-use Rattle.promises.proofs.OpenFindings.{Proper, proper, proper-number}
+use Rattle.promises.proofs.OpenFindings.{open-refusals}
 use Rattle.promises.proofs.AlikeSteps.{
   fall-alike,
   stay,
@@ -166,31 +163,20 @@ unfit-reply-asked (reading p) ok = refl
 unfit-reply-asked (settling t) ok = refl
 
 -- no other test gives 2
-not-two : (n : ℕ) → eqb n 2 ≡ false → n ≡ 2 → ⊥
-not-two n e = eqb-false n 2 e
-
 choice-not-two : (b : Bool) {x y : ℕ} → (x ≡ 2 → ⊥) → (y ≡ 2 → ⊥) → cond b x y ≡ 2 → ⊥
 choice-not-two true h k e = h e
 choice-not-two false h k e = k e
 
 third-not-two : (s : State) (c : Cleaning) → thirdRefusal s c ≡ 2 → ⊥
-third-not-two s Idle = not-two 0 refl
-third-not-two s (First p) = not-two 0 refl
-third-not-two s (Second p) = not-two 0 refl
-third-not-two s (Third p) = choice-not-two (eqb (s .stored) 0) (choice-not-two (eqb (sequencesTaken s) sequenceEnd) (not-two 6 refl) (not-two 0 refl)) (not-two 11 refl)
+third-not-two s Idle = eqb-false 0 2 refl
+third-not-two s (First p) = eqb-false 0 2 refl
+third-not-two s (Second p) = eqb-false 0 2 refl
+third-not-two s (Third p) = choice-not-two (eqb (s .stored) 0) (choice-not-two (eqb (sequencesTaken s) sequenceEnd) (eqb-false 6 2 refl) (eqb-false 0 2 refl)) (eqb-false 11 2 refl)
 
 by-soundness : (ok : Bool) (x n : ℕ) (a : Reply) → (x ≡ 2 → ⊥) → n ≡ cond ok x 2 → ((k : ℕ) → a ≡ refuses k → n ≡ k) → (a ≡ refuses 1) ⊎ (a ≡ refuses 2)
     → a ≡ cond ok (refuses 1) (refuses 2)
 by-soundness true x n a h e k r = ⊎-elim (λ (q : a ≡ refuses 1). q) (λ (q : a ≡ refuses 2). absurd (h (sym e ∙ k 2 q))) r
 by-soundness false x n a h e k r = ⊎-elim (λ (q : a ≡ refuses 1). absurd (omega (arith, e, k 1 q))) (λ (q : a ≡ refuses 2). q) r
-
-read-number : (n k : ℕ) (x : List ℕ) → readAnswered n x ≡ refuses k → n ≡ k
-read-number n k x e = by-eq n 0
-    (λ z. let q : shows x ≡ refuses k = simp (eq-eqb n 0 z) at e in no-accept (sym (ap accepts q)))
-    (λ z. let q : refuses n ≡ refuses k = simp (ne-eqb n 0 z) at e in number q)
-  where
-    number : {n k : ℕ} → refuses n ≡ refuses k → n ≡ k
-    number q = cc
 
 unfit-reply : (c : Call) (w : World) (a : Reply) (w′ : World) → Step c w a w′ → (a ≡ refuses 1) ⊎ (a ≡ refuses 2) → a ≡ unfitReply c (sound (w .state))
 unfolding beginRefusal describeRefusal endRefusal logRefusal cleanRefusal readRefusal settledRefusal
@@ -201,7 +187,7 @@ unfit-reply (opening f s) w a w′ st r = ⊎-elim (λ (q : a ≡ refuses 1). q)
 
     go : (x : Finding) → openFinding (w .log) (w .home) (length f) (length s) ≡ x → a ≡ refuses 2 → a ≡ refuses 1
     go (stops n j) e q =
-        let h = proper-number (subst Proper e (proper (w .log) (w .home) (length f) (length s))) in
+        let h = open-refusals (w .log) (w .home) (length f) (length s) n j e in
         let o = st .promise .refused n j e in
         absurd (h .1 (number (sym (open-refused-reply (st .result .answer) n (o .refusalIs) (h .0)) ∙ sym (st .replyIs) ∙ q)))
     go (stands n v) e q =
@@ -210,36 +196,36 @@ unfit-reply (opening f s) w a w′ st r = ⊎-elim (λ (q : a ≡ refuses 1). q)
 unfit-reply (begin u) w a w′ st r =
     let s = w .state in
     by-soundness (sound s) _ _ a
-    (choice-not-two (beginInRange s u) (choice-not-two (eqb (s .reserved) 0) (choice-not-two (leb (s .next + waitingBlocks s + u + 1) sequenceEnd) (choice-not-two (beginHasRoom s u) (not-two 0 refl) (not-two 5 refl)) (not-two 6 refl)) (not-two 4 refl)) (not-two 3 refl))
+    (choice-not-two (beginInRange s u) (choice-not-two (eqb (s .reserved) 0) (choice-not-two (leb (s .next + waitingBlocks s + u + 1) sequenceEnd) (choice-not-two (beginHasRoom s u) (eqb-false 0 2 refl) (eqb-false 5 2 refl)) (eqb-false 6 2 refl)) (eqb-false 4 2 refl)) (eqb-false 3 2 refl))
     (st .promise .refusal) (λ k q. refused-number (st .result .answer) k (sym (st .replyIs) ∙ q)) r
 unfit-reply (describe u) w a w′ st r =
     let s = w .state in
     by-soundness (sound s) _ _ a
-    (choice-not-two (eqb (length (w .staging)) (stagingLength (s .frames))) (choice-not-two (eqb (s .reserved) 0) (not-two 4 refl)
-    (choice-not-two (legalPlace (s .pages) (u .page) (u .offset) (length (u .bytes))) (choice-not-two (ltb (s .described) (s .reserved)) (not-two 0 refl) (not-two 5 refl)) (not-two 3 refl))) (not-two 1 refl))
+    (choice-not-two (eqb (length (w .staging)) (stagingLength (s .frames))) (choice-not-two (eqb (s .reserved) 0) (eqb-false 4 2 refl)
+    (choice-not-two (legalPlace (s .pages) (u .page) (u .offset) (length (u .bytes))) (choice-not-two (ltb (s .described) (s .reserved)) (eqb-false 0 2 refl) (eqb-false 5 2 refl)) (eqb-false 3 2 refl))) (eqb-false 1 2 refl))
     (st .promise .refusal) (λ k q. refused-number (st .result .answer) k (sym (st .replyIs) ∙ q)) r
 unfit-reply ending w a w′ st r =
     let s = w .state in
-    by-soundness (sound s) _ _ a (choice-not-two (eqb (s .reserved) 0) (not-two 4 refl) (choice-not-two (eqb (s .described) 0) (not-two 10 refl) (not-two 0 refl)))
+    by-soundness (sound s) _ _ a (choice-not-two (eqb (s .reserved) 0) (eqb-false 4 2 refl) (choice-not-two (eqb (s .described) 0) (eqb-false 10 2 refl) (eqb-false 0 2 refl)))
     (st .promise .refusal) (λ k q. end-refused-number (st .result .answer) k (sym (st .replyIs) ∙ q)) r
 unfit-reply logStep w a w′ st r =
     let s = w .state in
     by-soundness (sound s) _ _ a
-    (choice-not-two (areasFit s (length (w .log)) (length (w .home)) (length (w .frames)) && eqb (length (w .staging)) (stagingLength (s .frames))) (choice-not-two (eqb (s .queued) 0) (not-two 10 refl) (not-two 0 refl)) (not-two 1 refl))
+    (choice-not-two (areasFit s (length (w .log)) (length (w .home)) (length (w .frames)) && eqb (length (w .staging)) (stagingLength (s .frames))) (choice-not-two (eqb (s .queued) 0) (eqb-false 10 2 refl) (eqb-false 0 2 refl)) (eqb-false 1 2 refl))
     (st .promise .refusal) (λ k q. log-refused-number (st .result .answer) k (sym (st .replyIs) ∙ q)) r
 unfit-reply cleanStep w a w′ st r =
     let s = w .state in
     by-soundness (sound s) _ _ a
-    (choice-not-two (areasFit s (length (w .log)) (length (w .home)) (length (w .frames))) (choice-not-two (eqb (dirtyCount s) 0) (not-two 10 refl) (third-not-two s (s .cleaning))) (not-two 1 refl))
+    (choice-not-two (areasFit s (length (w .log)) (length (w .home)) (length (w .frames))) (choice-not-two (eqb (dirtyCount s) 0) (eqb-false 10 2 refl) (third-not-two s (s .cleaning))) (eqb-false 1 2 refl))
     (st .promise .refusal) (λ k q. refused-number (st .result .answer) k (sym (st .replyIs) ∙ q)) r
 unfit-reply (reading p) w a w′ st r =
     let s = w .state in
     by-soundness (sound s) _ _ a
-    (choice-not-two (eqb (length (now (st .home))) (homeLength (s .pages)) && eqb (length (now (st .frames))) (framesLength (s .frames))) (choice-not-two (ltb p (s .pages)) (not-two 0 refl) (not-two 3 refl)) (not-two 1 refl))
-    (st .promise .refusal) (λ k q. read-number (st .number) k (now (st .result)) (sym (st .replyIs) ∙ q)) r
+    (choice-not-two (eqb (length (now (st .home))) (homeLength (s .pages)) && eqb (length (now (st .frames))) (framesLength (s .frames))) (choice-not-two (ltb p (s .pages)) (eqb-false 0 2 refl) (eqb-false 3 2 refl)) (eqb-false 1 2 refl))
+    (st .promise .refusal) (λ k q. read-refused-number (st .number) k (now (st .result)) (sym (st .replyIs) ∙ q)) r
 unfit-reply (settling t) w a w′ st r =
     let s = w .state in
-    by-soundness (sound s) _ _ a (choice-not-two (leb 1 t && leb t (lastEnded s)) (not-two 0 refl) (not-two 3 refl))
+    by-soundness (sound s) _ _ a (choice-not-two (leb 1 t && leb t (lastEnded s)) (eqb-false 0 2 refl) (eqb-false 3 2 refl))
     (st .promise .refusal) (λ k q. standing-refused-number (st .result) k (sym (st .replyIs) ∙ q)) r
 
 -- its state is as it was, or all-zero after an Open

@@ -40,10 +40,9 @@ use Rattle.promises.proofs.Ranges.{Ranged}
 use Rattle.area.proofs.Parts.{length-splice}
 use Rattle.block.proofs.Facts.{NumberFacts}
 use Rattle.promises.proofs.Slots.{KindFits, slots-store, length-written}
-use Rattle.promises.proofs.SoundFacts.{and-left, and-right, Facts, facts}
+use Rattle.promises.proofs.SoundFacts.{and-left, and-right, Facts, facts, length-queue}
 use Rattle.promises.proofs.Kept.{sizesOf, bookOf, liveOf, stageOf, Fit, Fits, FitsAll, Lives, Good, fits-updates, fits-at, apply-all-cong, Matches, lives-from, cleaning-after}
 use Rattle.promises.proofs.Replies.{log-refused-false, no-accept}
-use Rattle.promises.proofs.QuietCalls.{length-queue}
 
 -- the pages that a commit makes dirty have its group's own start as first group, which counts anyway
 keep-apply : (start : ℕ) (home : ℕ → List ℕ) (u : Update) (es : List DirtyPage) → keepFromOf start (apply start home u es) ≡ keepFromOf start es
@@ -274,7 +273,7 @@ module _ (z : Sizes) (range : Ranged z) (w : World) (b : Book) (gd : Good z w b)
       let c2 = pick-zero (sound s) _ 2 (omega arith) e in
       let c1 = pick-zero (areasFit s (length (w .log)) (length (w .home)) (length (w .frames)) && eqb (length (w .staging)) (s .frames * 472)) _ 1 (omega arith) (c2 .1) in
       let c10 = pick-other (eqb (s .queued) 0) _ 10 (omega arith) (c1 .1) in
-      go e (c2 .0) (eqb-false _ _ (c10 .0)) (length-queue z w b gd (facts s (w .frames) (c2 .0))) (queueOf s (w .staging)) refl)
+      go e (c2 .0) (eqb-false _ _ (c10 .0)) (length-queue s (w .staging) (facts s (w .frames) (c2 .0) .queued)) (queueOf s (w .staging)) refl)
       n
     where
       go : logRefusalOf s (w .log) (w .home) (w .frames) (w .staging) ≡ 0 → sound s ≡ true → (s .queued ≡ 0 → ⊥) → length (queueOf s (w .staging)) ≡ s .queued

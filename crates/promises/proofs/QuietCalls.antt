@@ -3,12 +3,12 @@
 use denote.Ref.{RefT, now}
 use mathlib.Core.Path.{_≡_, refl, sym, ap, _∙_, subst}
 use mathlib.Core.Bool.{Bool, true, false, cond, not, _&&_, _||_}
-use Prim.Native.Nat.{ℕ, zero, suc, _+_, _*_, _-_, _^_, _≤_, _<_}
-use mathlib.Core.List.{List, [], _∷_, _++_, map}
+use Prim.Native.Nat.{ℕ, zero, _+_, _*_, _-_, _^_, _≤_, _<_}
+use mathlib.Core.List.{List, [], _∷_, _++_}
 use native.Mathlib.Omega.{arith}
-use lib.ListN.{length, take, drop, getD, length-take, length-drop, length-map, length-append}
+use lib.ListN.{length, take, getD, length-append}
 use lib.Dec.{eqb, leb, ltb}
-use borrow.Author.Tests.{leb-true, ltb-true, eqb-true, eqb-false, eq-eqb, ne-eqb}
+use borrow.Author.Tests.{leb-true, ltb-true, eqb-true, eqb-false}
 use Rattle.promises.specs.declared.State.{State}
 use Rattle.promises.specs.declared.Staged.{Staged}
 use Rattle.promises.specs.declared.Standing.{Standing}
@@ -16,7 +16,7 @@ use Rattle.promises.specs.declared.Standing.the-variants.{Yes, No}
 use Rattle.promises.specs.Areas.{pageAt}
 use Rattle.promises.specs.Updates.{Update}
 use Rattle.promises.specs.DirtyPages.{lookUp, shown}
-use Rattle.promises.specs.Contents.{Contents, contentsOf, dirtyOf, groupsOf, grouped, queueOf, listOf, waiting, total}
+use Rattle.promises.specs.Contents.{Contents, contentsOf, dirtyOf, queueOf, total}
 use Rattle.promises.specs.Sound.{sound}
 use Rattle.block.specs.Legal.{legalPlace}
 use Rattle.promises.specs.Leaves.{Leaves}
@@ -25,17 +25,17 @@ use Rattle.promises.specs.Describe.{describeRefusal}
 use Rattle.promises.specs.End.{endRefusal}
 use Rattle.promises.specs.Settled.{settledRefusal}
 use Rattle.promises.specs.Read.{readRefusal, readRefusalOf}
-use Rattle.promises.proofs.Changes.{pick-zero, pick-other}
+use Rattle.promises.proofs.Changes.{pick-zero, pick-other, describe-passed}
 use Rattle.promises.proofs.History.Machine.{Live}
 use Rattle.promises.proofs.History.Sizes.{enqueue}
 use Rattle.promises.proofs.History.Sees.{by-eq}
 use Rattle.promises.proofs.History.Recovered.{alive-end, shown-right}
 use Rattle.promises.proofs.History.Whole.{Runs, places-append}
 use Rattle.promises.specs.Book.{Book, begun, described, ended, ticketGiven}
-use Rattle.promises.specs.Events.{Sizes, World, withState, Call, begin, describe, ending, reading, settling, Reply, refuses, done, gives, shows, says, accepts, endAnswered, standingAnswered, readAnswered, Beginning, Describing, Ending, Reading, Settling}
+use Rattle.promises.specs.Events.{Sizes, World, withState, Call, begin, describe, ending, reading, settling, Reply, refuses, done, gives, shows, says, accepts, endAnswered, standingAnswered, Beginning, Describing, Ending, Reading, Settling}
 use Rattle.promises.specs.Claim.{entered, Right}
-use Rattle.promises.proofs.Replies.{refused-false, end-refused-false, standing-refused-false, no-accept}
-use Rattle.promises.proofs.SoundFacts.{and-left, and-right, Facts, facts}
+use Rattle.promises.proofs.Replies.{refused-false, end-refused-false, standing-refused-false, no-accept, read-accepted-reply, read-refused-reply}
+use Rattle.promises.proofs.SoundFacts.{and-left, and-right, Facts, facts, length-list, length-queue}
 use Rattle.promises.proofs.Kept.{sizesOf, bookOf, liveOf, Fit, Fits, FitsAll, Lives, Good, fits-legal, fits-updates, fits-more, all-more, Matches, lives-from}
 
 -- ---- Begin
@@ -74,15 +74,11 @@ module _ (z : Sizes) (w : World) (b : Book) (g : Good z w b) where
       (ltb-true _ _ (and-left (leb 1 n) d), leb-true _ _ (and-right (ltb page P) d), leb-true _ _ (and-right (ltb page P && leb 1 n) c), leb-true _ _ (and-right (ltb page P && leb 1 n && leb n 472) e))
 
   pub do-describe : (u : Update) (a : Reply) (w′ : World) → Describing w u a w′ → Good z w′ (entered (describe u) (accepts a) b)
-  unfolding describeRefusal
   do-describe u a w′ st = rw (st .replyIs, st .after) (by-eq (describeRefusal s (length (w .staging)) (u .page) (u .offset) (length (u .bytes))) 0
       (λ e.
-      let c2 = pick-zero (sound s) _ 2 (omega arith) e in
-      let c1 = pick-zero (eqb (length (w .staging)) (s .frames * 472)) _ 1 (omega arith) (c2 .1) in
-      let c4 = pick-other (eqb (s .reserved) 0) _ 4 (omega arith) (c1 .1) in
-      let c3 = pick-zero (legalPlace (s .pages) (u .page) (u .offset) (length (u .bytes))) _ 3 (omega arith) (c4 .1) in
-      let l : Lives z w b (g .history) (g .home) (g .pages) = g .live (c2 .0) in
-      let ft : Fit (z .pages) u = subst (λ (p : ℕ). Fit p u) (l .pageCount) (fit-of (s .pages) (u .page) (u .offset) (u .bytes) (c3 .0)) in
+      let r = describe-passed s (length (w .staging)) (u .page) (u .offset) (length (u .bytes)) e in
+      let l : Lives z w b (g .history) (g .home) (g .pages) = g .live (r .0) in
+      let ft : Fit (z .pages) u = subst (λ (p : ℕ). Fit p u) (l .pageCount) (fit-of (s .pages) (u .page) (u .offset) (u .bytes) (r .3)) in
       let step = st .promise .accepted e in
       let lv = step .leaves in
       rw (step .answerIs) (record {
@@ -103,17 +99,6 @@ module _ (z : Sizes) (w : World) (b : Book) (g : Good z w b) where
       (subst (λ (x : State). Good z (withState w x) b) (sym (k .0)) g)))
 
   -- ---- End
-  length-list : (x : Facts s (w .frames)) → length (listOf s (w .staging)) ≡ s .described
-  length-list x = simp (length-take, length-drop, length-map) (omega arith)
-
-  length-grouped : (ns : List ℕ) (us : List Update) → length (grouped ns us) ≡ length ns
-  unfolding grouped
-  length-grouped [] us = refl
-  length-grouped (n ∷ ns) us = ap suc (length-grouped ns (drop n us))
-
-  pub length-queue : (x : Facts s (w .frames)) → length (queueOf s (w .staging)) ≡ s .queued
-  length-queue x = length-grouped (groupsOf s) (map (waiting (w .staging)) (s .staged)) ∙ simp length-take (omega arith)
-
   pub do-ending : (a : Reply) (w′ : World) → Ending w a w′ → Good z w′ (entered ending (accepts a) b)
   unfolding endRefusal
   do-ending a w′ st = rw (st .replyIs, st .after) (by-eq (endRefusal s) 0
@@ -124,7 +109,7 @@ module _ (z : Sizes) (w : World) (b : Book) (g : Good z w b) where
       let nz : s .described ≡ 0 → ⊥ = eqb-false _ _ (c10 .0) in
       let l : Lives z w b (g .history) (g .home) (g .pages) = g .live (c2 .0) in
       let f : Facts s (w .frames) = facts s (w .frames) (c2 .0) in
-      let ln : length (b .list) ≡ s .described = ap length (sym (l .list)) ∙ length-list f in
+      let ln : length (b .list) ≡ s .described = ap length (sym (l .list)) ∙ length-list s (w .staging) (f .staged) in
       let lv = st .promise .leaves e (w .staging) in
       let k : Live = liveOf s (w .frames) (w .staging) in
       let al = alive-end (g .history) (g .home) k (bookOf (g .pages) b) (b .list) (omega arith, fits-legal (z .pages) (b .list) (l .listFits)) (l .runs .alive) in
@@ -162,7 +147,7 @@ module _ (z : Sizes) (w : World) (b : Book) (g : Good z w b) where
       let c2 = pick-zero (sound s) _ 2 (omega arith) e in
       let l : Lives z w b (g .history) (g .home) (g .pages) = g .live (c2 .0) in
       let f : Facts s (w .frames) = facts s (w .frames) (c2 .0) in
-      let q : length (b .queue) ≡ s .queued = ap length (sym (l .runs .alive .queue)) ∙ length-queue f in
+      let q : length (b .queue) ≡ s .queued = ap length (sym (l .runs .alive .queue)) ∙ length-queue s (w .staging) (f .queued) in
       let t : s .ticket ≡ b .m = l .runs .alive .ticket in
       st .replyIs ∙ ap endAnswered (st .promise .answerIs e) ∙ ap gives (omega (arith, length-append (b .queue) (b .list ∷ []))))
       (λ n. no-accept (sym (end-refused-false (st .result .answer) _ (st .promise .refusal) n) ∙ ap accepts (sym (st .replyIs)) ∙ ok))
@@ -182,12 +167,6 @@ module _ (z : Sizes) (w : World) (b : Book) (g : Good z w b) where
       (λ n. no-accept (sym (standing-refused-false (st .result) _ (st .promise .refusal) n) ∙ ap accepts (sym (st .replyIs)) ∙ ok))
 
   -- ---- Read
-  shown-false : (n : ℕ) (x : List ℕ) → (n ≡ 0 → ⊥) → accepts (readAnswered n x) ≡ false
-  shown-false n x h = simp (ne-eqb n 0 h)
-
-  shown-true : (n : ℕ) (x : List ℕ) → n ≡ 0 → readAnswered n x ≡ shows x
-  shown-true n x h = simp (eq-eqb n 0 h)
-
   pub answer-reading : (p : ℕ) (a : Reply) (w′ : World) → Reading w p a w′ → accepts a ≡ true → a ≡ shows (b .pages p)
   unfolding readRefusal
   answer-reading p a w′ st ok = by-eq (readRefusalOf s (now (st .home)) (now (st .frames)) p) 0
@@ -199,5 +178,5 @@ module _ (z : Sizes) (w : World) (b : Book) (g : Good z w b) where
       let h : p < z .pages = rw (← (l .pageCount)) (ltb-true _ _ (c3 .0)) in
       let r = shown-right (g .history) (g .home) (liveOf s (w .frames) (w .staging)) (bookOf (g .pages) b) (g .kept .disk) (l .runs .alive) p in
       let bytes : now (st .result) ≡ b .pages p = st .promise .bytesAre e ∙ rw (st .homeIs, st .framesAre, ← (g .homeIs p h)) (r ∙ g .pagesAre p h) in
-      st .replyIs ∙ shown-true (st .number) (now (st .result)) (st .promise .refusal ∙ e) ∙ ap shows bytes)
-      (λ n. no-accept (sym (shown-false (st .number) (now (st .result)) (λ q. n (sym (st .promise .refusal) ∙ q))) ∙ ap accepts (sym (st .replyIs)) ∙ ok))
+      st .replyIs ∙ read-accepted-reply (st .number) (now (st .result)) (st .promise .refusal ∙ e) ∙ ap shows bytes)
+      (λ n. no-accept (sym (ap accepts (read-refused-reply (st .number) (now (st .result)) (λ q. n (sym (st .promise .refusal) ∙ q)))) ∙ ap accepts (sym (st .replyIs)) ∙ ok))

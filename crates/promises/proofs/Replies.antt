@@ -1,9 +1,11 @@
 -- The reply of a refusing answer, for each kind of answer: it gives the number and accepts nothing.
 -- Assumes nothing.
-use mathlib.Core.Path.{_≡_, refl, sym, ap}
+use mathlib.Core.Path.{_≡_, refl, sym, ap, _∙_}
 use mathlib.Core.Bool.{Bool, true, false}
 use Prim.Native.Nat.{ℕ}
+use mathlib.Core.List.{List}
 use native.Mathlib.Omega.{arith}
+use borrow.Author.Tests.{eq-eqb, ne-eqb}
 use Rattle.promises.specs.declared.Answer.{Answer}
 use Rattle.promises.specs.declared.Answer.the-variants.{Refused, Done}
 use Rattle.promises.specs.declared.Ended.{Ended}
@@ -15,7 +17,8 @@ use Rattle.promises.specs.declared.Opened.the-variants.{Refused as OpenR
 use Rattle.promises.specs.declared.Standing.{Standing}
 use Rattle.promises.specs.declared.Standing.the-variants.{Refused as StandingRefused, Yes, No}
 use Rattle.promises.specs.Answers.{refusalIn, endRefusalIn, logRefusalIn, openRefusalIn, standingRefusalIn}
-use Rattle.promises.specs.Events.{refuses, done, accepts, answered, endAnswered, logAnswered, openAnswered, standingAnswered}
+use Rattle.promises.specs.Events.{refuses, done, shows, accepts, answered, endAnswered, logAnswered, openAnswered, standingAnswered, readAnswered}
+use Rattle.promises.proofs.History.Sees.{by-eq}
 
 -- the reply of a refusing answer
 pub refused-reply : (a : Answer) (n : ℕ) → refusalIn a ≡ n → (n ≡ 0 → ⊥) → answered a ≡ refuses n
@@ -39,6 +42,13 @@ pub standing-refused-reply : (a : Standing) (n : ℕ) → standingRefusalIn a �
 standing-refused-reply (StandingRefused x) n e h = ap refuses e
 standing-refused-reply Yes n e h = absurd (h (sym e))
 standing-refused-reply No n e h = absurd (h (sym e))
+
+-- Read's reply, by its refusal and its bytes
+pub read-refused-reply : (n : ℕ) (bytes : List ℕ) → (n ≡ 0 → ⊥) → readAnswered n bytes ≡ refuses n
+read-refused-reply n bytes h = simp (ne-eqb n 0 h)
+
+pub read-accepted-reply : (n : ℕ) (bytes : List ℕ) → n ≡ 0 → readAnswered n bytes ≡ shows bytes
+read-accepted-reply n bytes h = simp (eq-eqb n 0 h)
 
 -- it accepts nothing
 pub refused-false : (a : Answer) (n : ℕ) → refusalIn a ≡ n → (n ≡ 0 → ⊥) → accepts (answered a) ≡ false
@@ -74,6 +84,14 @@ pub standing-refused-number : (a : Standing) (n : ℕ) → standingAnswered a �
 standing-refused-number (StandingRefused x) n e = cc
 standing-refused-number Yes n e = no-accept (sym (ap accepts e))
 standing-refused-number No n e = no-accept (sym (ap accepts e))
+
+pub read-refused-number : (m n : ℕ) (bytes : List ℕ) → readAnswered m bytes ≡ refuses n → m ≡ n
+read-refused-number m n bytes e = by-eq m 0
+    (λ z. no-accept (sym (ap accepts (sym (read-accepted-reply m bytes z) ∙ e))))
+    (λ z. number (sym (read-refused-reply m bytes z) ∙ e))
+  where
+    number : refuses m ≡ refuses n → m ≡ n
+    number q = cc
 
 -- an accepted call that answers nothing else is done
 pub accepted-done : (a : Answer) → accepts (answered a) ≡ true → answered a ≡ done

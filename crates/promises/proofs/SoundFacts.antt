@@ -3,16 +3,18 @@
 use mathlib.Core.Path.{_≡_, refl, sym, ap, _∙_, subst}
 use mathlib.Core.Bool.{Bool, true, false, cond, not, _&&_, _||_}
 use Prim.Native.Nat.{ℕ, zero, suc, _+_, _*_, _-_, _^_, _≤_, _<_, min}
-use mathlib.Core.List.{List, [], _∷_, _++_}
+use mathlib.Core.List.{List, [], _∷_, _++_, map}
 use native.Mathlib.Omega.{arith}
-use lib.ListN.{length, take, drop}
+use lib.ListN.{length, take, drop, length-take, length-drop, length-map}
+use lib.Seq.{length-take-le}
 use lib.Dec.{eqb, leb, ltb}
 use borrow.Author.Tests.{leb-true, ltb-true, eqb-true, eqb-false, eq-eqb, ne-eqb, not-true}
 use Rattle.promises.specs.declared.State.{State}
 use Rattle.promises.specs.declared.Dirty.{Dirty}
 use Rattle.promises.specs.Areas.{pageAt}
+use Rattle.promises.specs.Updates.{Update}
 use Rattle.promises.specs.DirtyPages.{DirtyPage, Found, absent, at, lookUp, keepFromOf}
-use Rattle.promises.specs.Contents.{unless, dirtyFrom, dirtyOf, groupsOf, total}
+use Rattle.promises.specs.Contents.{unless, dirtyFrom, dirtyOf, groupsOf, grouped, queueOf, listOf, waiting, total}
 use Rattle.promises.specs.Sums.{firstGroups, halfStarts, openOnes, smallest, blockCount, dirtyCount, heldSlots, waitingBlocks, queuedUpdates, reservedUpdates, owedBlocks}
 use Rattle.promises.specs.Sound.{dirtyNumbers, member, distinct, allBelow, sizesLegal, ofOldest, names, sizesSound, sound}
 use Rattle.promises.proofs.Soundness.{Sound, sound-of}
@@ -102,3 +104,15 @@ facts s frames h =
       room = rw ld (f .frameSum);
       sequences = f .sequenceSum;
     }
+
+-- ---- the lists that a state says, by its counts
+pub length-list : (s : State) (staging : List ℕ) → total (groupsOf s) + s .described ≤ length (s .staged) → length (listOf s staging) ≡ s .described
+length-list s staging h = simp (length-take, length-drop, length-map) (omega arith)
+
+length-grouped : (ns : List ℕ) (us : List Update) → length (grouped ns us) ≡ length ns
+unfolding grouped
+length-grouped [] us = refl
+length-grouped (n ∷ ns) us = ap suc (length-grouped ns (drop n us))
+
+pub length-queue : (s : State) (staging : List ℕ) → s .queued ≤ length (s .groups) → length (queueOf s staging) ≡ s .queued
+length-queue s staging h = length-grouped (groupsOf s) (map (waiting staging) (s .staged)) ∙ length-take-le (s .queued) (s .groups) h

@@ -18,6 +18,18 @@ use Rattle.promises.specs.Contents.{unless, dirtyFrom}
 use Rattle.promises.specs.Sound.{member, dirtyNumbers}
 use Rattle.promises.proofs.Soundness.{and-both}
 
+-- ---- what a look-up finds
+
+-- one page at most
+pub same-at : {e f : DirtyPage} → at e ≡ at f → e ≡ f
+same-at h = cc
+
+-- no page is found and absent
+pub found-absent : {X : Type 0} (e : DirtyPage) → at e ≡ absent → X
+found-absent e h = let z : _≡_ {A = ℕ} 0 1 = cc in absurd (omega arith)
+
+-- ---- an entry and its frame
+
 abbrev pub free : Dirty
 free = record { page = 0; first = 0 }
 
@@ -112,9 +124,6 @@ apply-old s home u (x ∷ es) p y e = by-cases (eqb (u .page) (x .page))
     fin true e = e
     fin false e = refl
 
-    same-at : at x ≡ at y → x ≡ y
-    same-at e = cc
-
 -- ---- a clean block frees its page's frame
 pub lookUp-without : (p q : ℕ) (es : List DirtyPage) → lookUp p (without q es) ≡ cond (eqb p q) absent (lookUp p es)
 unfolding lookUp without
@@ -125,6 +134,14 @@ lookUp-without p q (x ∷ es) = by-cases (eqb q (x .page))
     (λ r. let n : eqb p (x .page) ≡ false = ne-eqb p (x .page) (λ e. eqb-false p q r (e ∙ sym (eqb-true q (x .page) t))) in rw (r, n) refl)))
     (λ t. rw t (ap (λ (y : Found). cond (eqb p (x .page)) (at x) y) (lookUp-without p q es)
     ∙ swap p (eqb p (x .page)) (eqb p q) _ _ _ (λ c. ne-eqb p (x .page) (λ e. eqb-false q (x .page) t (sym (eqb-true p q c) ∙ e)))))
+
+-- a page that is not found is not taken out
+pub without-none : (q : ℕ) (es : List DirtyPage) → lookUp q es ≡ absent → without q es ≡ es
+unfolding lookUp without
+without-none q [] h = refl
+without-none q (e ∷ es) h = by-cases (eqb q (e .page))
+    (λ t. found-absent e (rw t at h))
+    (λ t. rw t (ap (λ (l : List DirtyPage). e ∷ l) (without-none q es (rw t at h))))
 
 pub lookUp-none : (p : ℕ) (frames : List ℕ) (f : ℕ) (ds : List Dirty) → member p (dirtyNumbers ds) ≡ false → lookUp p (dirtyFrom frames f ds) ≡ absent
 unfolding dirtyFrom dirtyNumbers lookUp

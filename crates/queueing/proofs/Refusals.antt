@@ -9,8 +9,7 @@ use native.Mathlib.Omega.{arith}
 use lib.Dec.{eqb, leb, ltb}
 use lib.ListN.{length}
 use lib.Seq.{length-take-le}
-use borrow.Author.Tests.{eqb-true, eqb-false, ltb-true}
-use Rattle.block.specs.Legal.{legalPlace}
+use borrow.Author.Tests.{eqb-false, ltb-true}
 use Rattle.block.proofs.Tests.{not-passed, tests}
 use Rattle.promises.specs.declared.State.{State}
 use Rattle.promises.specs.declared.Refusal.{Refusal}
@@ -30,7 +29,7 @@ use Rattle.promises.specs.End.{endRefusal, Ends}
 use Rattle.promises.specs.Settled.{settledRefusal, Settles}
 use Rattle.promises.specs.Read.{readRefusal}
 use Rattle.promises.proofs.Soundness.{Sound, sound-of}
-use Rattle.promises.proofs.Changes.{pick-zero, pick-other, groups-count}
+use Rattle.promises.proofs.Changes.{pick-zero, pick-other, describe-passed, groups-count}
 use Rattle.soundness.specs.declared.sums.Sums.{Sums}
 use Rattle.soundness.specs.Summed.{Summed}
 use Rattle.soundness.proofs.Counts.{reserved-is}
@@ -127,21 +126,16 @@ pub record Describable (s : State) (staging page offset count : ℕ) : Type 0 wh
 
 pub describable : (s : State) (staging page offset count : ℕ) → length (s .groups) ≡ 32 → describeRefusal s staging page offset count ≡ 0
     → Describable s staging page offset count
-unfolding describeRefusal
 describable s staging page offset count long e =
-    let c2 = pick-zero (sound s) _ 2 (omega arith) e in
-    let c1 = pick-zero (eqb staging (s .frames * 472)) _ 1 (omega arith) (c2 .1) in
-    let c4 = pick-other (eqb (s .reserved) 0) _ 4 (omega arith) (c1 .1) in
-    let c3 = pick-zero (legalPlace (s .pages) page offset count) _ 3 (omega arith) (c4 .1) in
-    let c5 = pick-zero (ltb (s .described) (s .reserved)) 0 5 (omega arith) (c3 .1) in
-    let f : Sound s = sound-of s (c2 .0) in
-    let more : s .described < s .reserved = ltb-true _ _ (c5 .0) in
-    let l = simp tests at (c3 .0) in
+    let r = describe-passed s staging page offset count e in
+    let f : Sound s = sound-of s (r .0) in
+    let more : s .described < s .reserved = r .4 in
+    let l = simp tests at (r .3) in
     record {
-      sounds = c2 .0;
+      sounds = r .0;
       waiting = omega (arith, f .frameSum, reserved-is s);
       frames = f .frames .1;
-      staging-long = eqb-true _ _ (c1 .0);
+      staging-long = r .1;
       page-fits = omega (arith, f .pages);
       offset-fits = omega arith;
       count-fits = omega arith;

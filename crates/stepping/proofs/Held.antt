@@ -16,16 +16,12 @@ use Rattle.promises.specs.Contents.{unless, dirtyFrom}
 use Rattle.promises.specs.Sums.{firstGroups}
 use Rattle.promises.specs.Sound.{member, allBelow, dirtyNumbers}
 use Rattle.promises.proofs.Soundness.{and-both}
-use Rattle.promises.proofs.Table.{lookUp-none}
+use Rattle.promises.proofs.Table.{found-absent, lookUp-none}
 use Rattle.table.specs.declared.Table.{Table}
 use Rattle.table.specs.Table.{Holds}
 use Rattle.table.proofs.Holding.{Each, Below, each-apply}
 
 -- ---- pages that are found
-
--- no page is found and absent
-pub found-absent : {X : Type 0} (e : DirtyPage) → at e ≡ absent → X
-found-absent e h = let z : _≡_ {A = ℕ} 0 1 = cc in absurd (omega arith)
 
 -- a page that is not found is not named
 pub look-unnamed : (p : ℕ) (frames : List ℕ) (f : ℕ) (ds : List Dirty) → lookUp p (dirtyFrom frames f ds) ≡ absent → member p (dirtyNumbers ds) ≡ false

@@ -24,7 +24,8 @@ use Rattle.table.specs.declared.Table.{Table}
 use Rattle.table.specs.Search.{free}
 use Rattle.table.specs.Table.{emptyTable, Holds}
 pub use Rattle.table.specs.Table.{Each}
-use Rattle.table.proofs.LookUps.{distinct-of, of-distinct, same-count, same-keep}
+use Rattle.promises.proofs.SameDirty.{same-count, same-keep}
+use Rattle.table.proofs.LookUps.{distinct-of, of-distinct}
 use Rattle.table.proofs.Entries.{free-groups}
 
 -- ---- D and keep-from of what a table holds
