@@ -1,3 +1,4 @@
 pub mod Case
 pub mod BlockCases
 pub mod StoreCases
+pub mod EndCases

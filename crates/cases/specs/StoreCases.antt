@@ -19,10 +19,10 @@ use Rattle.cases.specs.BlockCases.{blockCases}
 -- ---- logs of blocks 1 on, with zeros in the other slots
 
 -- the blocks of cases 2, 3 and 4
-abbrev updateOfCase2 : LogBlock
+abbrev pub updateOfCase2 : LogBlock
 updateOfCase2 = record { kind = update 1 (record { page = 0; offset = 0; bytes = 42 ∷ [] }); keepFrom = 1; ticket = 0 }
 
-abbrev commitOfCase3 : LogBlock
+abbrev pub commitOfCase3 : LogBlock
 commitOfCase3 = record { kind = commit 1; keepFrom = 1; ticket = 1 }
 
 abbrev cleanOfCase4 : LogBlock

@@ -16,8 +16,9 @@ use Rattle.block.specs.declared.Kind.the-variants.{Update, Commit, Clean}
 use Rattle.block.proofs.Facts.{facts, Facts}
 use Rattle.promises.specs.Areas.{slotsIn}
 use Rattle.promises.specs.Blocks.{slotAt, slotsOf}
-use Rattle.promises.specs.Newest.{sequenceIn, newest, blocks, allUnused}
+use Rattle.promises.specs.Newest.{sequenceIn, newest, blocks, allUnused, isDamaged}
 use Rattle.promises.specs.Walk.{stops, stands, finding}
+use Rattle.promises.proofs.Gathered.{gathered-fresh}
 use Rattle.promises.proofs.Soundness.{and2}
 use Rattle.recovery.specs.declared.Scan.{Scan}
 use Rattle.recovery.specs.Log.{headerOf, blocksFrom}
@@ -33,7 +34,6 @@ use Rattle.listing.proofs.Finding.{
   from-stands,
   ended-place,
   found-fresh,
-  gathered-fresh,
   keep-fresh,
   found-damaged,
   Stands,
@@ -41,6 +41,7 @@ use Rattle.listing.proofs.Finding.{
   newest-standing,
   keep-shown,
   found-missing,
+  found-end,
   found-blocks,
   gathered-blocks,
 }
@@ -115,7 +116,7 @@ module _ (log : List ℕ) (n : ℕ) (long : length log ≡ n * 512) (least : 8 �
               foundIs = found-is ∙ w .1 ∙ ap (λ (x : ℕ). stands x (w .0)) (omega arith);
               keepIs = k ∙ sym (keep-fresh log big unused);
               ticketIs = t ∙ sym (ap (λ (o : Outline). o .ticket) (w .2));
-              blocksAre = gathered-fresh log big unused ∙ sym (ap (λ (x : ℕ). blocks (blocksFrom log (examined .keep) x)) none);
+              blocksAre = gathered-fresh _ _ unused ∙ sym (ap (λ (x : ℕ). blocks (blocksFrom log (examined .keep) x)) none);
               keepMost = omega arith;
               newestBelow = omega arith;
               blocksFew = omega (arith, none);
@@ -165,11 +166,18 @@ module _ (log : List ℕ) (n : ℕ) (long : length log ≡ n * 512) (least : 8 �
           pub ordinary-at : (s : ℕ) → keep ≤ s → s ≤ scan .newest → Ordinary (headerOf log s)
           ordinary-at s x y = ordinary (slotsIn (length log)) 4096 (headerOf log s) (legal-at s x y .0)
 
-          module _ (course : Course)
+          -- the slot after the newest is damaged
+          pub examines-end : (examined : Examined) (end : Bool) → end ≡ isDamaged (slotAt (slotsIn (length log)) 4096 log (slotOf (slotsIn (length log)) (scan .newest + 1))) → end ≡ true
+              → examined .refusal ≡ 7 → examined .place ≡ scan .newest + 1 → Examines log examined
+          examines-end examined end e d r p =
+              refuses examined 7 (scan .newest + 1) (λ q. omega arith) r p
+              (found-end log big (scan .newest) keep (scan-is .newestIs) keep-is some (keep-range .0) (keep-range .1) all-stand (sym e ∙ d))
+
+          module _ (end : Bool) (is-end : end ≡ isDamaged (slotAt (slotsIn (length log)) 4096 log (slotOf (slotsIn (length log)) (scan .newest + 1)))) (whole : end ≡ false) (course : Course)
               (walked : sketchIn course ≡ ended n (steps 32 (headersFrom log keep (scan .newest + 1 - keep)) (started keep (headerOf log keep .ticket)))) where
             found-course : sketchOf (finding (slotsIn (length log)) 4096 32 log []) ≡ sketchIn course
             found-course =
-                found-blocks log big (scan .newest) keep (scan-is .newestIs) keep-is some (keep-range .0) (keep-range .1) all-stand
+                found-blocks log big (scan .newest) keep (scan-is .newestIs) keep-is some (keep-range .0) (keep-range .1) all-stand (sym is-end ∙ whole)
                 ∙ ap (λ (k : ℕ). ended k (steps 32 (headersFrom log keep (scan .newest + 1 - keep)) (started keep (headerOf log keep .ticket)))) slots-are
                 ∙ sym walked
 
@@ -197,7 +205,7 @@ module _ (log : List ℕ) (n : ℕ) (long : length log ≡ n * 512) (least : 8 �
                       keepIs = k ∙ sym (keep-shown log big (scan .newest) keep (scan-is .newestIs) keep-is some);
                       ticketIs = t ∙ sym (ap (λ (o : Outline). o .ticket) (w .2));
                       blocksAre =
-                          gathered-blocks log big (scan .newest) keep (scan-is .newestIs) keep-is some (keep-range .0) (keep-range .1) all-stand
+                          gathered-blocks log big (scan .newest) keep (scan-is .newestIs) keep-is some (keep-range .0) (keep-range .1) all-stand (sym is-end ∙ whole)
                           ∙ ap (λ (x : ℕ). blocks (blocksFrom log keep x)) (sym shown)
                           ∙ ap (λ (x : ℕ). blocks (blocksFrom log x (blocksShown examined))) (sym k);
                       keepMost = omega (arith, keep-range .1);

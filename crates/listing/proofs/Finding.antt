@@ -6,9 +6,9 @@ use mathlib.Core.List.{List, [], _∷_}
 use Prim.Native.Nat.{ℕ, zero, suc, _+_, _-_, _≤_, _<_}
 use native.Mathlib.Numerals.{add-one}
 use native.Mathlib.Omega.{arith}
-use lib.Dec.{eqb, leb}
+use lib.Dec.{leb}
 use lib.ListN.{length, getD, replicate, length-replicate}
-use borrow.Author.Tests.{ne-eqb, le-leb}
+use borrow.Author.Tests.{le-leb}
 use Rattle.block.specs.Legal.{legal, slotOf}
 use Rattle.block.specs.declared.Block.{Block}
 use Rattle.block.specs.declared.Kind as format
@@ -16,10 +16,10 @@ use Rattle.block.specs.declared.Kind.the-variants.{Update, Commit, Clean}
 use Rattle.promises.specs.Areas.{pageAt, slotsIn, pagesIn}
 use Rattle.promises.specs.Blocks.{Slot, unused, damaged, valid, kindIn, slotAt, slotsOf}
 use Rattle.promises.specs.DirtyPages.{keepFromOf}
-use Rattle.promises.specs.Newest.{sequenceIn, newest, keepIn, keepOf, missing, blocks, gather, allUnused, gathered}
+use Rattle.promises.specs.Newest.{sequenceIn, newest, keepIn, keepOf, blocks, allUnused, isDamaged, gathered}
 use Rattle.promises.specs.Walk.{Walk, Finding, stops as findingStops, stands as findingStands, walkFrom, finding, startWith}
 use Rattle.recovery.specs.Log.{headerOf, blockOf, blocksFrom, Legal}
-use Rattle.opening.proofs.Gathering.{stands-legal, newest-stands, keep-is, gather-all, finds-fresh, finds-damaged, finds-missing, finds-blocks}
+use Rattle.opening.proofs.Gathering.{stands-legal, newest-stands, keep-is, finds-fresh, finds-damaged, finds-missing, finds-end, gathers-blocks, finds-blocks}
 use Rattle.outline.specs.Outline.{
   Outline,
   Sketch,
@@ -142,14 +142,6 @@ from-stands (findingStands n w) next outline e =
     let q : outlineOf w ≡ outline = cc in
     (w, ap (λ (m : ℕ). findingStands m w) p, q)
 
--- a valid slot is not unused
-some-used : (slots : List Slot) → (newest slots ≡ 0 → ⊥) → allUnused slots ≡ false
-unfolding newest allUnused
-some-used [] n = absurd (n refl)
-some-used (unused ∷ slots) n = some-used slots (λ z. n (omega arith))
-some-used (damaged ∷ slots) n = refl
-some-used (valid sequence block ∷ slots) n = refl
-
 unused-keep : (slots : List Slot) (i : ℕ) → allUnused slots ≡ true → keepIn (getD slots i unused) ≡ 0
 unfolding allUnused
 unused-keep [] i e = refl
@@ -175,10 +167,6 @@ module _ (log : List ℕ) (big : 512 ≤ length log) where
   unfolding walkFrom blocksFrom keepFromOf
   found-fresh e = at-home ∙ ap sketchOf (finds-fresh log (blank 4194304) big 32 (ap (λ (pages : ℕ). allUnused (slotsOf N pages log)) paged ∙ e))
       ∙ ap (λ (t : Bool). sketchOf (cond t (findingStands 1 (startWith 0)) (findingStops 8 0))) (le-leb 0 N (omega arith))
-
-  pub gathered-fresh : allUnused slots ≡ true → gathered N slots ≡ blocks []
-  unfolding gathered
-  gathered-fresh e = ap (λ (t : Bool). cond t (blocks []) (cond (eqb (newest slots) 0) (missing 0) (gather N slots (newest slots + 1 - keepOf N slots) (keepOf N slots)))) e
 
   pub keep-fresh : allUnused slots ≡ true → keepOf N slots ≡ 0
   keep-fresh e = unused-keep slots (slotOf N (newest slots)) e
@@ -225,20 +213,25 @@ module _ (log : List ℕ) (big : 512 ≤ length log) where
         (λ e. g (ap (λ (pages : ℕ). sequenceIn (slotAt N pages log (slotOf N lost))) (sym paged) ∙ e)))
 
     module _ (one : 1 ≤ k) (most : k ≤ m) (all : (s : ℕ) → k ≤ s → s ≤ m → Stands s) where
-      pub found-blocks : sketchOf (finding N 4096 32 log []) ≡ ended N (steps 32 (headersFrom log k (m + 1 - k)) (started k (headerOf log k .ticket)))
-      found-blocks =
-          at-home
-          ∙ ap sketchOf (finds-blocks log (blank 4194304) big 32 m k at-pages is-keep some one most (λ s x y. there s (all s x y)))
-          ∙ walk-alike N 32 (pageAt (blank 4194304)) (m + 1) k (blocksFrom log k (m + 1 - k)) (startWith (headerOf log k .ticket))
-          (omega (arith, blocks-length log k (m + 1 - k)))
-          ∙ ap (ended N) (steps-form 32 log (m + 1 - k) k (started k (headerOf log k .ticket)))
+      -- the slot after the newest
+      end-there : (d : Bool) → isDamaged (slotAt N 4096 log (slotOf N (m + 1))) ≡ d → isDamaged (slotAt N (pagesIn (length (blank 4194304))) log (slotOf N (m + 1))) ≡ d
+      end-there d e = ap (λ (pages : ℕ). isDamaged (slotAt N pages log (slotOf N (m + 1)))) paged ∙ e
 
-      pub gathered-blocks : gathered N slots ≡ blocks (blocksFrom log k (m + 1 - k))
-      unfolding gathered
-      gathered-blocks =
-          ap (λ (t : Bool). cond t (blocks []) (cond (eqb (newest slots) 0) (missing 0) (gather N slots (newest slots + 1 - keepOf N slots) (keepOf N slots)))) (some-used slots (λ z. some (is-newest ∙ z)))
-          ∙ ap (λ (t : Bool). cond t (missing 0) (gather N slots (newest slots + 1 - keepOf N slots) (keepOf N slots))) (ne-eqb _ _ (λ z. some (is-newest ∙ z)))
-          ∙ ap (λ (x : ℕ). gather N slots (x + 1 - keepOf N slots) (keepOf N slots)) (sym is-newest)
-          ∙ ap (λ (x : ℕ). gather N slots (m + 1 - x) x) keep-shown
-          ∙ subst (λ (pages : ℕ). gather N (slotsOf N pages log) (m + 1 - k) k ≡ blocks (blocksFrom log k (m + 1 - k))) paged
-          (gather-all log (blank 4194304) big (m + 1 - k) k one (λ s x y. there s (all s x (omega arith))))
+      pub found-end : isDamaged (slotAt N 4096 log (slotOf N (m + 1))) ≡ true → sketchOf (finding N 4096 32 log []) ≡ stops 7 (m + 1)
+      found-end d =
+          at-home
+          ∙ ap sketchOf (finds-end log (blank 4194304) big 32 m k at-pages is-keep some one most (λ s x y. there s (all s x y)) (end-there true d))
+
+      module _ (whole : isDamaged (slotAt N 4096 log (slotOf N (m + 1))) ≡ false) where
+        pub found-blocks : sketchOf (finding N 4096 32 log []) ≡ ended N (steps 32 (headersFrom log k (m + 1 - k)) (started k (headerOf log k .ticket)))
+        found-blocks =
+            at-home
+            ∙ ap sketchOf (finds-blocks log (blank 4194304) big 32 m k at-pages is-keep some one most (λ s x y. there s (all s x y)) (end-there false whole))
+            ∙ walk-alike N 32 (pageAt (blank 4194304)) (m + 1) k (blocksFrom log k (m + 1 - k)) (startWith (headerOf log k .ticket))
+            (omega (arith, blocks-length log k (m + 1 - k)))
+            ∙ ap (ended N) (steps-form 32 log (m + 1 - k) k (started k (headerOf log k .ticket)))
+
+        pub gathered-blocks : gathered N slots ≡ blocks (blocksFrom log k (m + 1 - k))
+        gathered-blocks =
+            subst (λ (pages : ℕ). gathered N (slotsOf N pages log) ≡ blocks (blocksFrom log k (m + 1 - k))) paged
+            (gathers-blocks log (blank 4194304) big 32 m k at-pages is-keep some one most (λ s x y. there s (all s x y)) (end-there false whole))

@@ -97,6 +97,9 @@ fn examine_slots(log: &[u8], sequences: &mut [u64]) -> Examined
     if lost <= newest {
         return refused(7, lost);
     }
+    if recovery::damaged_at(log, PAGES, newest + 1) {
+        return refused(7, newest + 1);
+    }
     let first = recovery::header(log, keep);
     let course = outline::last_test(walk_blocks(log, keep, newest, first.ticket), slots);
     if course.refusal != 0 {

@@ -22,7 +22,7 @@ use Rattle.promises.specs.LogStep.{noUpdate, updateBlock, commitBlock, dirtyAft
 use Rattle.promises.proofs.Soundness.{Sound, sound-of, of-sound}
 use Rattle.promises.proofs.SoundFacts.{length-dirty, keepFrom-dirty}
 use Rattle.promises.proofs.Changes.{updateDone, update-met}
-use Rattle.promises.proofs.LogSteps.{keep-applied}
+use Rattle.promises.proofs.History.KeepFrom.{keep-applied}
 use Rattle.promises.proofs.Promised.{log-updates, log-commits}
 use Rattle.table.proofs.Holding.{sound-holds}
 use Rattle.queue.specs.Queue.{cleaningLeft, shifted, commitDone}

@@ -1,4 +1,4 @@
--- The slots that the scan noted give the blocks that the paper's opening gathers, or the lowest missing one.
+-- The slots that the scan noted give the blocks that the paper's opening gathers, or the lowest missing one, or a damaged end.
 -- Assumes nothing.
 use mathlib.Core.Path.{_≡_, refl, sym, ap, _∙_, subst}
 use mathlib.Core.Bool.{Bool, true, false, cond, _&&_}
@@ -18,10 +18,11 @@ use Rattle.block.specs.Slot.{allZero, same, blockAt, newBytesAt, valid as valid
 use Rattle.block.specs.declared.Judged.the-variants.{Unused, Damaged, Valid}
 use Rattle.promises.specs.Areas.{pageAt, slotBytes, slotsIn, pagesIn}
 use Rattle.promises.specs.Blocks.{LogBlock, Slot, unused, damaged, valid, kindIn, slotIn, slotAt, slotsFrom, slotsOf}
-use Rattle.promises.specs.Newest.{sequenceIn, newest, keepIn, keepOf, Gathered, missing, blocks, withBlock, blockIn, gather, allUnused, gathered}
+use Rattle.promises.specs.Newest.{sequenceIn, newest, keepIn, keepOf, Gathered, missing, blocks, withBlock, blockIn, gather, allUnused, isDamaged, endDamaged, endTested, gathered}
 use Rattle.promises.specs.Walk.{stops, walkFrom, walkGathered, startWith, believed, finding}
 use Rattle.promises.proofs.Soundness.{and-both}
 use Rattle.promises.proofs.Slots.{get-slot}
+use Rattle.promises.proofs.Gathered.{unused-newest, gathered-fresh, gathered-damaged, gathered-from, end-missing, end-whole}
 use Rattle.recovery.specs.Log.{headerOf, blockOf, blocksFrom, Legal}
 
 -- ---- a slot whose sequence is not 0 holds the block that its header tells
@@ -70,13 +71,6 @@ newest-at N P log i (suc n) h =
     either (sequenceIn (slotAt N P log i)) (newest (slotsFrom N P log (suc i) n))
     (λ l. let r = newest-at N P log (suc i) n (λ z. absurd (omega arith)) in (r .0, omega (arith, r .1), omega (arith, r .2)))
     (λ l. (i, omega arith, omega arith))
-
-unused-newest : (slots : List Slot) → allUnused slots ≡ true → newest slots ≡ 0
-unfolding allUnused newest
-unused-newest [] h = refl
-unused-newest (unused ∷ slots) h = omega (arith, unused-newest slots h)
-unused-newest (damaged ∷ slots) h = let z : _≡_ {A = ℕ} 0 1 = cc in absurd (omega arith)
-unused-newest (valid q b ∷ slots) h = let z : _≡_ {A = ℕ} 0 1 = cc in absurd (omega arith)
 
 -- ---- the blocks from keep-from on
 
@@ -151,7 +145,7 @@ module _ (log home : List ℕ) (big : 512 ≤ length log) where
       lacks damaged e = refl
       lacks (valid found block) e = ap (λ (b : Bool). cond b (withBlock block (gather N slots n (suc k))) (missing k)) (ne-eqb found k e)
 
-  -- ---- the four findings
+  -- ---- the five findings
 
   module _ (F : ℕ) where
     from-gathered : (g : Gathered) → gathered N slots ≡ g → finding N P F log home ≡ walkGathered N F (pageAt home) slots g
@@ -160,18 +154,14 @@ module _ (log home : List ℕ) (big : 512 ≤ length log) where
 
     -- all slots unused
     pub finds-fresh : allUnused slots ≡ true → finding N P F log home ≡ walkFrom N F (pageAt home) 1 1 (blocksFrom log 1 0) (startWith 0)
-    unfolding gathered walkFrom blocksFrom
+    unfolding walkFrom blocksFrom
     finds-fresh e =
-        from-gathered (blocks []) (ap (λ (b : Bool). cond b (blocks []) (cond (eqb (newest slots) 0) (missing 0) (gather N slots (newest slots + 1 - keepOf N slots) (keepOf N slots)))) e)
+        from-gathered (blocks []) (gathered-fresh N slots e)
         ∙ ap (λ (m : ℕ). walkFrom N F (pageAt home) (m + 1) (keepOf N slots) [] (startWith 0)) (unused-newest slots e)
 
     -- no valid slot but a damaged one
     pub finds-damaged : allUnused slots ≡ false → newest slots ≡ 0 → finding N P F log home ≡ stops 7 0
-    unfolding gathered
-    finds-damaged e z =
-        from-gathered (missing 0)
-        (ap (λ (b : Bool). cond b (blocks []) (cond (eqb (newest slots) 0) (missing 0) (gather N slots (newest slots + 1 - keepOf N slots) (keepOf N slots)))) e
-        ∙ ap (λ (b : Bool). cond b (missing 0) (gather N slots (newest slots + 1 - keepOf N slots) (keepOf N slots))) (eq-eqb _ _ z))
+    finds-damaged e z = from-gathered (missing 0) (gathered-damaged N slots e z)
 
     module _ (m k : ℕ) (is-newest : m ≡ newest slots) (is-keep : k ≡ headerOf log m .«keep_from») (n : m ≡ 0 → ⊥) where
       not-zero : newest slots ≡ 0 → ⊥
@@ -180,28 +170,42 @@ module _ (log home : List ℕ) (big : 512 ≤ length log) where
       k-is : keepOf N slots ≡ k
       k-is = keep-is not-zero ∙ ap (λ (x : ℕ). headerOf log x .«keep_from») (sym is-newest) ∙ sym is-keep
 
-      gathers : gathered N slots ≡ gather N slots (m + 1 - k) k
-      unfolding gathered
-      gathers =
-          ap (λ (b : Bool). cond b (blocks []) (cond (eqb (newest slots) 0) (missing 0) (gather N slots (newest slots + 1 - keepOf N slots) (keepOf N slots)))) used
-          ∙ ap (λ (b : Bool). cond b (missing 0) (gather N slots (newest slots + 1 - keepOf N slots) (keepOf N slots))) (ne-eqb _ _ not-zero)
-          ∙ ap (λ (x : ℕ). gather N slots (x + 1 - keepOf N slots) (keepOf N slots)) (sym is-newest)
-          ∙ ap (λ (x : ℕ). gather N slots (m + 1 - x) x) k-is
-        where
-          used : allUnused slots ≡ false
-          used = Rattle.block.proofs.Tests.not-passed (allUnused slots) (λ e. not-zero (unused-newest slots e))
+      gathers : gathered N slots ≡ endTested N slots (gather N slots (m + 1 - k) k)
+      gathers = gathered-from N slots m k (sym is-newest) k-is n
+
+      -- the slot after the newest
+      end-is : endDamaged N slots ≡ isDamaged (slotAt N P log (slotOf N (m + 1)))
+      end-is = ap (λ (x : ℕ). isDamaged (getD slots (slotOf N (x + 1)) unused)) (sym is-newest) ∙ ap isDamaged (at-slot (m + 1))
 
       -- a block is missing
       pub finds-missing : (lost : ℕ) → 1 ≤ k → k ≤ lost → lost < k + (m + 1 - k)
           → ((s : ℕ) → k ≤ s → s < lost → sequenceIn (slotAt N P log (slotOf N s)) ≡ s)
           → (sequenceIn (slotAt N P log (slotOf N lost)) ≡ lost → ⊥) → finding N P F log home ≡ stops 7 lost
-      finds-missing lost h l x f g = from-gathered (missing lost) (gathers ∙ gather-missing (m + 1 - k) k lost h l x f g)
+      finds-missing lost h l x f g = from-gathered (missing lost) (gathers ∙ ap (endTested N slots) (gather-missing (m + 1 - k) k lost h l x f g))
 
-      -- all are in their slots: the walk over them
+      -- all are in their slots, and then the end
+      gathers-all : 1 ≤ k → k ≤ m → ((s : ℕ) → k ≤ s → s ≤ m → sequenceIn (slotAt N P log (slotOf N s)) ≡ s)
+          → gathered N slots ≡ endTested N slots (blocks (blocksFrom log k (m + 1 - k)))
+      gathers-all h l f = gathers ∙ ap (endTested N slots) (gather-all (m + 1 - k) k h (λ s x y. f s x (omega arith)))
+
+      -- the slot after the newest is damaged: one more is missing
+      pub finds-end : 1 ≤ k → k ≤ m → ((s : ℕ) → k ≤ s → s ≤ m → sequenceIn (slotAt N P log (slotOf N s)) ≡ s)
+          → isDamaged (slotAt N P log (slotOf N (m + 1))) ≡ true → finding N P F log home ≡ stops 7 (m + 1)
+      finds-end h l f d =
+          from-gathered (missing (newest slots + 1)) (gathers-all h l f ∙ end-missing N slots (blocksFrom log k (m + 1 - k)) (end-is ∙ d))
+          ∙ ap (λ (x : ℕ). stops 7 (x + 1)) (sym is-newest)
+
+      -- it is not: the blocks
+      pub gathers-blocks : 1 ≤ k → k ≤ m → ((s : ℕ) → k ≤ s → s ≤ m → sequenceIn (slotAt N P log (slotOf N s)) ≡ s)
+          → isDamaged (slotAt N P log (slotOf N (m + 1))) ≡ false → gathered N slots ≡ blocks (blocksFrom log k (m + 1 - k))
+      gathers-blocks h l f d = gathers-all h l f ∙ end-whole N slots (blocksFrom log k (m + 1 - k)) (end-is ∙ d)
+
+      -- and the walk over them
       pub finds-blocks : 1 ≤ k → k ≤ m → ((s : ℕ) → k ≤ s → s ≤ m → sequenceIn (slotAt N P log (slotOf N s)) ≡ s)
+          → isDamaged (slotAt N P log (slotOf N (m + 1))) ≡ false
           → finding N P F log home ≡ walkFrom N F (pageAt home) (m + 1) k (blocksFrom log k (m + 1 - k)) (startWith (headerOf log k .ticket))
-      finds-blocks h l f =
-          from-gathered (blocks (blocksFrom log k (m + 1 - k))) (gathers ∙ gather-all (m + 1 - k) k h (λ s x y. f s x (omega arith)))
+      finds-blocks h l f d =
+          from-gathered (blocks (blocksFrom log k (m + 1 - k))) (gathers-blocks h l f d)
           ∙ ap (λ (x : ℕ). walkFrom N F (pageAt home) (x + 1) (keepOf N slots) (blocksFrom log k (m + 1 - k)) (startWith (believed (blocksFrom log k (m + 1 - k))))) (sym is-newest)
           ∙ ap (λ (x : ℕ). walkFrom N F (pageAt home) (m + 1) x (blocksFrom log k (m + 1 - k)) (startWith (believed (blocksFrom log k (m + 1 - k))))) k-is
           ∙ ap (λ (x : ℕ). walkFrom N F (pageAt home) (m + 1) k (blocksFrom log k (m + 1 - k)) (startWith x)) (first (m + 1 - k) (omega arith))

@@ -1,7 +1,7 @@
 -- What the scan, the search for a missing block and the walk find is what the paper finds.
 -- Assumes nothing.
 use mathlib.Core.Path.{_≡_, refl, sym, ap, _∙_, subst}
-use mathlib.Core.Bool.{true, false}
+use mathlib.Core.Bool.{Bool, true, false}
 use mathlib.Core.List.{List}
 use Prim.Native.Nat.{ℕ, _+_, _-_, _*_, _^_, _≤_, _<_}
 use native.Mathlib.Omega.{arith}
@@ -13,13 +13,13 @@ use Rattle.block.specs.declared.Block.{Block}
 use Rattle.block.proofs.Facts.{facts, Facts}
 use Rattle.promises.specs.Areas.{pageAt, slotsIn, pagesIn}
 use Rattle.promises.specs.Blocks.{slotAt}
-use Rattle.promises.specs.Newest.{sequenceIn, newest}
+use Rattle.promises.specs.Newest.{sequenceIn, isDamaged, newest}
 use Rattle.promises.specs.Walk.{Finding, stops, walkFrom, startWith, finding}
 use Rattle.recovery.specs.declared.Scan.{Scan}
 use Rattle.recovery.specs.Log.{headerOf, blocksFrom, Legal}
 use Rattle.recovery.specs.Slots.{standing, Scanned, Lowest}
 use Rattle.opening.specs.Findings.{FoundWalk, stoppedAt, Finds}
-use Rattle.opening.proofs.Gathering.{stands-legal, newest-stands, finds-fresh, finds-damaged, finds-missing, finds-blocks}
+use Rattle.opening.proofs.Gathering.{stands-legal, newest-stands, finds-fresh, finds-damaged, finds-missing, finds-end, finds-blocks}
 
 -- a walk that was stopped at a missing block
 stopped-finds : (log home : List ℕ) (count place : ℕ) (found : Finding) (r : FoundWalk) (frames : List ℕ) → found ≡ stops 7 place → r ≡ stoppedAt count place
@@ -101,11 +101,20 @@ module _ (log home sequences : List ℕ) (scan : Scan) (n : ℕ) (long : length 
         pub all-legal : (s : ℕ) → last .«keep_from» ≤ s → s ≤ scan .newest → Legal log home s
         all-legal s x y = stands-legal log home big s (omega (arith, keep-bounds .0)) (stand s x y)
 
-        pub reads-blocks : (count F : ℕ) (r : FoundWalk) (frames : List ℕ) (ticket : ℕ) → ticket ≡ headerOf log (last .«keep_from») .ticket
+        -- the slot after the newest is damaged
+        pub reads-end : (count F : ℕ) (r : FoundWalk) (frames : List ℕ) (end : Bool) → end ≡ isDamaged (slotAt N P log (slotOf N (scan .newest + 1))) → end ≡ true
+            → r ≡ stoppedAt count (scan .newest + 1) → Finds log home count (finding N P F log home) r frames
+        reads-end count F r frames end e d q =
+            stopped-finds log home count (scan .newest + 1) _ r frames
+            (finds-end log home big F (scan .newest) (last .«keep_from») (scanned .newestIs) (ap (λ (b : Block). b .«keep_from») header) nz (keep-bounds .0) (keep-bounds .1) stand (sym e ∙ d))
+            q
+
+        pub reads-blocks : (count F : ℕ) (r : FoundWalk) (frames : List ℕ) (end : Bool) → end ≡ isDamaged (slotAt N P log (slotOf N (scan .newest + 1))) → end ≡ false
+            → (ticket : ℕ) → ticket ≡ headerOf log (last .«keep_from») .ticket
             → Finds log home count (walkFrom N F (pageAt home) (scan .newest + 1) (last .«keep_from») (blocksFrom log (last .«keep_from») (scan .newest + 1 - last .«keep_from»)) (startWith ticket)) r frames
             → Finds log home count (finding N P F log home) r frames
-        reads-blocks count F r frames ticket t x =
+        reads-blocks count F r frames end e d ticket t x =
             finds-as log home count _ _ r frames
             (ap (λ (y : ℕ). walkFrom N F (pageAt home) (scan .newest + 1) (last .«keep_from») (blocksFrom log (last .«keep_from») (scan .newest + 1 - last .«keep_from»)) (startWith y)) t
-            ∙ sym (finds-blocks log home big F (scan .newest) (last .«keep_from») (scanned .newestIs) (ap (λ (b : Block). b .«keep_from») header) nz (keep-bounds .0) (keep-bounds .1) stand))
+            ∙ sym (finds-blocks log home big F (scan .newest) (last .«keep_from») (scanned .newestIs) (ap (λ (b : Block). b .«keep_from») header) nz (keep-bounds .0) (keep-bounds .1) stand (sym e ∙ d)))
             x

@@ -107,7 +107,8 @@ fn find(
     requires { ⌜ (length (now log) ≡ length (now sequences) * blockSize) × (8 ≤ length (now sequences)) × (length (now sequences) ≤ 1024) × (pagesIn (length (now home)) ≤ 4096) × (length (now frames) ≡ framesIn (length (now frames)) * pageSize) × (framesIn (length (now frames)) ≤ 32) × (now seats ≡ replicate (framesIn (length (now frames))) 0) ⌝ }
     ensures { λ r. ⌜ Finds (now (log .entry)) (now (home .entry)) (framesIn (length (now (frames .entry)))) (finding (slotsIn (length (now (log .entry)))) (pagesIn (length (now (home .entry)))) (framesIn (length (now (frames .entry)))) (now (log .entry)) (now (home .entry))) (foundOf r (now (seats .exit))) (now (frames .exit)) ⌝ }
 {
-    let scan = recovery::judge_all(log, home.len() / Block::PAGE, sequences);
+    let pages = home.len() / Block::PAGE;
+    let scan = recovery::judge_all(log, pages, sequences);
     let newest = scan.newest;
     if newest == 0 {
         if !scan.unused {
@@ -120,6 +121,9 @@ fn find(
     let lost = recovery::missing(sequences, keep, newest);
     if lost <= newest {
         return stopped(lost);
+    }
+    if recovery::damaged_at(log, pages, newest + 1) {
+        return stopped(newest + 1);
     }
     let first = recovery::header(log, keep);
     walked(seats, log, home, frames, keep, newest, first.ticket)

@@ -41,7 +41,7 @@ use Rattle.promises.specs.Alike.{Alike}
 use Rattle.promises.proofs.Soundness.{sound-of}
 use Rattle.promises.proofs.SoundFacts.{distinct-dirty, length-queue}
 use Rattle.promises.proofs.Changes.{pick-zero, pick-other, describe-passed}
-use Rattle.promises.proofs.LogSteps.{keep-applied}
+use Rattle.promises.proofs.History.KeepFrom.{keep-applied}
 use Rattle.promises.proofs.Demand3.{not-sound}
 use Rattle.promises.proofs.History.Sees.{by-eq}
 use Rattle.promises.proofs.History.WalkStart.{distinct-without}

@@ -30,18 +30,22 @@ use Rattle.promises.proofs.History.Ledger as ledger
 use Rattle.promises.proofs.History.Stored.{store}
 use Rattle.promises.proofs.History.Sees.{by-eq, Sees}
 use Rattle.promises.proofs.History.Invariant.{Inv, Stage, frame-right, invariant-front, invariant-back, Disk, Alive, view, same-page, other-page}
+use Rattle.promises.proofs.History.Tally.{lookUp-page}
 use Rattle.promises.proofs.History.Whole.{Kept, Runs, kept-clean, kept-half}
 use Rattle.promises.specs.Book.{Book}
 use Rattle.promises.specs.Events.{Sizes, World, Call, cleanStep, Reply, accepts}
 use Rattle.promises.specs.Events as events
+use Rattle.promises.specs.Stored.{storesBlock, newBlock, storedIn}
 use Rattle.promises.proofs.Ranges.{Ranged}
 use Rattle.area.proofs.Parts.{length-splice}
 use Rattle.block.proofs.Facts.{NumberFacts}
 use Rattle.promises.proofs.Pages.{first-half, second-half, first-other, second-other}
 use Rattle.promises.proofs.Slots.{KindFits}
 use Rattle.promises.proofs.SoundFacts.{Facts, facts}
-use Rattle.promises.proofs.Kept.{sizesOf, bookOf, liveOf, stageOf, Lives, Good, lookUp-page, Matches, lives-from}
+use Rattle.promises.proofs.Kept.{sizesOf, bookOf, liveOf, stageOf, Lives, Good, Matches, lives-from}
+use Rattle.promises.proofs.Replies.{refused-false}
 use Rattle.promises.proofs.LogSteps.{keep-facts, stored-long, stored-slots}
+use Rattle.promises.proofs.StoredBlocks.{none-stored, one-stored}
 
 part-front-is : (x : List ℕ) → part x 0 512 ≡ take 512 x
 unfolding part
@@ -51,7 +55,7 @@ part-back-is : (x : List ℕ) → length x ≡ 1024 → part x 512 512 ≡ drop 
 unfolding part
 part-back-is x h = take-all 512 (drop 512 x) (omega (arith, length-drop 512 x))
 
-module _ (z : Sizes) (range : Ranged z) (w : World) (b : Book) (gd : Good z w b) where
+module _ (z : Sizes) (range : Ranged z) (w : World) (b : Book) {history : List LogBlock} (gd : Good z w b history) where
   abbrev s : State
   s = w .state
 
@@ -65,44 +69,43 @@ module _ (z : Sizes) (range : Ranged z) (w : World) (b : Book) (gd : Good z w b)
   ledger₀ = bookOf (gd .pages) b
 
   abbrev at₀ : Machine
-  at₀ = record { history = gd .history; home = gd .home; live = up k₀ }
+  at₀ = record { history = history; home = gd .home; live = up k₀ }
 
   -- what an accepted Clean step starts from
   pub record Ready (q : ℕ) (e : DirtyPage) : Type 0 where
-    pub lives : Lives z w b (gd .history) (gd .home) (gd .pages)
+    pub lives : Lives z w b history (gd .home) (gd .pages)
     pub fact : Facts s (w .frames)
     pub below : q < z .pages
     pub fits : q * 1024 + 1024 ≤ length (w .home)
     pub long : length (e .bytes) ≡ 1024
-    pub runs : Runs (sizesOf z) (gd .home) ledger₀ (gd .history) (length (gd .history) + 1) k₀
+    pub runs : Runs (sizesOf z) (gd .home) ledger₀ history (length history + 1) k₀
 
   ready : (q : ℕ) (e : DirtyPage) → lookUp q (dirtyOf s (w .frames)) ≡ at e → sound s ≡ true → Ready q e
   ready q e f so =
-      let l : Lives z w b (gd .history) (gd .home) (gd .pages) = gd .live so in
+      let l : Lives z w b history (gd .home) (gd .pages) = gd .live so in
       let r = l .runs in
       let h : q < z .pages = lookUp-page (z .pages) q e (dirtyOf s (w .frames)) f (r .pages) in
-      let fr : e .bytes ≡ gd .pages q = frame-right _ _ e _ (subst (λ (x : Found). Sees (gd .home q) x (view (gd .history) q .page)) f (r .alive .sees q)) (gd .kept .disk .right q) in
+      let fr : e .bytes ≡ gd .pages q = frame-right _ _ e _ (subst (λ (x : Found). Sees (gd .home q) x (view history q .page)) f (r .alive .sees q)) (gd .kept .disk .right q) in
       record {
         lives = l;
         fact = facts s (w .frames) so;
         below = h;
         fits = omega (arith, gd .homeLong);
         long = ap length fr ∙ gd .kept .disk .wide q;
-        runs = subst (λ (i : ℕ). Runs (sizesOf z) (gd .home) ledger₀ (gd .history) i k₀) (r .next) r;
+        runs = subst (λ (i : ℕ). Runs (sizesOf z) (gd .home) ledger₀ history i k₀) (r .next) r;
       }
 
   -- ---- half a page is stored
   half-good : (q : ℕ) (e : DirtyPage) (r : Ready q e) (home′ : ℕ → List ℕ) (bytes : List ℕ) (c : Cleaning) (t : State)
-      → Disk (gd .history) home′ (gd .pages) (b .m)
-      → Alive (gd .history) home′ (record { ticket = s .ticket; queue = queueOf s (w .staging); count = s .stored; dirtyPages = dirtyOf s (w .frames); cleaning = stageOf c }) ledger₀
+      → Disk history home′ (gd .pages) (b .m)
+      → Alive history home′ (record { ticket = s .ticket; queue = queueOf s (w .staging); count = s .stored; dirtyPages = dirtyOf s (w .frames); cleaning = stageOf c }) ledger₀
       → length bytes ≡ length (w .home) → ((p : ℕ) → p < z .pages → home′ p ≡ pageAt bytes p)
       → (contentsOf t (w .staging) ≡ cleaningAt (contentsOf s (w .staging)) c) → ((p : ℕ) → lookUp p (dirtyOf t (w .frames)) ≡ lookUp p (dirtyOf s (w .frames)))
-      → Good z (record { state = t; log = w .log; home = bytes; frames = w .frames; staging = w .staging }) b
+      → Good z (record { state = t; log = w .log; home = bytes; frames = w .frames; staging = w .staging }) b history
   half-good q e r home′ bytes c t d a ln hi se dy =
       let l = r .lives in
-      let k = kept-half (sizesOf z) slots₀ (gd .home) ledger₀ (gd .history) k₀ (omega arith) (gd .kept) (r .runs) home′ (stageOf c) d a in
+      let k = kept-half (sizesOf z) slots₀ (gd .home) ledger₀ history k₀ (omega arith) (gd .kept) (r .runs) home′ (stageOf c) d a in
       record {
-        history = gd .history;
         home = home′;
         pages = gd .pages;
         kept = k .0;
@@ -110,15 +113,15 @@ module _ (z : Sizes) (range : Ranged z) (w : World) (b : Book) (gd : Good z w b)
         homeLong = ln ∙ gd .homeLong;
         homeIs = hi;
         pagesAre = gd .pagesAre;
-        live = λ y. lives-from z (record { state = t; log = w .log; home = bytes; frames = w .frames; staging = w .staging }) b (gd .history) home′ (gd .pages) _
-            (record { ticket = s .ticket; queue = queueOf s (w .staging); count = s .stored; dirtyPages = dirtyOf s (w .frames); cleaning = stageOf c }) (length (gd .history) + 1)
+        live = λ y. lives-from z (record { state = t; log = w .log; home = bytes; frames = w .frames; staging = w .staging }) b history home′ (gd .pages) _
+            (record { ticket = s .ticket; queue = queueOf s (w .staging); count = s .stored; dirtyPages = dirtyOf s (w .frames); cleaning = stageOf c }) (length history + 1)
             (record { pageCount = l .pageCount; slotCount = l .slotCount; frameCount = l .frameCount; next = l .runs .next; ticket = refl; queue = refl; stored = refl; cleaning = refl; list = l .list })
             y se dy (l .listFits) (l .queueFits) (k .1);
       }
 
   front-good : (q : ℕ) (e : DirtyPage) → lookUp q (dirtyOf s (w .frames)) ≡ at e → sound s ≡ true → (t : State)
       → (contentsOf t (w .staging) ≡ cleaningAt (contentsOf s (w .staging)) (Second q)) → ((p : ℕ) → lookUp p (dirtyOf t (w .frames)) ≡ lookUp p (dirtyOf s (w .frames)))
-      → Good z (record { state = t; log = w .log; home = withFirstHalf (w .home) q (part (e .bytes) 0 512); frames = w .frames; staging = w .staging }) b
+      → Good z (record { state = t; log = w .log; home = withFirstHalf (w .home) q (part (e .bytes) 0 512); frames = w .frames; staging = w .staging }) b history
   unfolding halfStored
   front-good q e f so t se dy =
       let r : Ready q e = ready q e f so in
@@ -134,7 +137,7 @@ module _ (z : Sizes) (range : Ranged z) (w : World) (b : Book) (gd : Good z w b)
 
   back-good : (q : ℕ) (e : DirtyPage) → lookUp q (dirtyOf s (w .frames)) ≡ at e → sound s ≡ true → s .cleaning ≡ Second q → (t : State)
       → (contentsOf t (w .staging) ≡ cleaningAt (contentsOf s (w .staging)) (Third q)) → ((p : ℕ) → lookUp p (dirtyOf t (w .frames)) ≡ lookUp p (dirtyOf s (w .frames)))
-      → Good z (record { state = t; log = w .log; home = withSecondHalf (w .home) q (part (e .bytes) 512 512); frames = w .frames; staging = w .staging }) b
+      → Good z (record { state = t; log = w .log; home = withSecondHalf (w .home) q (part (e .bytes) 512 512); frames = w .frames; staging = w .staging }) b history
   unfolding halfStored
   back-good q e f so c t se dy =
       let r : Ready q e = ready q e f so in
@@ -157,70 +160,80 @@ module _ (z : Sizes) (range : Ranged z) (w : World) (b : Book) (gd : Good z w b)
   cleanLive q = record { ticket = s .ticket; queue = queueOf s (w .staging); count = s .stored; dirtyPages = without q (dirtyOf s (w .frames)); cleaning = idle }
 
   abbrev CleanKept : ℕ → ℕ → Type 0
-  CleanKept q n = Kept (sizesOf z) (store (z .slots) n (cleanAt q n) slots₀) (gd .home) ledger₀ (gd .history ++ (cleanAt q n ∷ []))
-      × Runs (sizesOf z) (gd .home) ledger₀ (gd .history ++ (cleanAt q n ∷ [])) (n + 1) (cleanLive q)
+  CleanKept q n = Kept (sizesOf z) (store (z .slots) n (cleanAt q n) slots₀) (gd .home) ledger₀ (history ++ (cleanAt q n ∷ []))
+      × Runs (sizesOf z) (gd .home) ledger₀ (history ++ (cleanAt q n ∷ [])) (n + 1) (cleanLive q)
 
   clean-kept : (q : ℕ) (e : DirtyPage) → lookUp q (dirtyOf s (w .frames)) ≡ at e → Ready q e → s .cleaning ≡ Third q → s .stored ≡ 0 → CleanKept q (s .next)
   clean-kept q e f r c c0 =
-      let nx : s .next ≡ length (gd .history) + 1 = r .lives .runs .next in
+      let nx : s .next ≡ length history + 1 = r .lives .runs .next in
       let sg : Stage (gd .home) (gd .pages) (third q) = subst (λ (y : Cleaning). Stage (gd .home) (gd .pages) (stageOf y)) c (r .runs .alive .stage) in
-      let o : keepFromOf (s .next - s .stored) (dirtyOf s (w .frames)) ≡ keepFromOf (length (gd .history) + 1) (dirtyOf s (w .frames)) = ap (λ (i : ℕ). keepFromOf i (dirtyOf s (w .frames))) (omega arith) in
+      let o : keepFromOf (s .next - s .stored) (dirtyOf s (w .frames)) ≡ keepFromOf (length history + 1) (dirtyOf s (w .frames)) = ap (λ (i : ℕ). keepFromOf i (dirtyOf s (w .frames))) (omega arith) in
       let n1 : s .slots ≡ z .slots = r .lives .slotCount in
-      let k = kept-clean (sizesOf z) slots₀ (gd .home) ledger₀ (gd .history) k₀ (omega arith) (gd .kept) (r .runs) q e f sg c0 (omega (arith, r .fact .slots, o, n1)) in
-      subst (CleanKept q) (sym nx) (k .0, subst (λ (i : ℕ). Runs (sizesOf z) (gd .home) ledger₀ (gd .history ++ (cleanAt q (length (gd .history) + 1) ∷ [])) i (cleanLive q)) (omega arith) (k .1))
+      let k = kept-clean (sizesOf z) slots₀ (gd .home) ledger₀ history k₀ (omega arith) (gd .kept) (r .runs) q e f sg c0 (omega (arith, r .fact .slots, o, n1)) in
+      subst (CleanKept q) (sym nx) (k .0, subst (λ (i : ℕ). Runs (sizesOf z) (gd .home) ledger₀ (history ++ (cleanAt q (length history + 1) ∷ [])) i (cleanLive q)) (omega arith) (k .1))
 
   clean-good : (q : ℕ) (e : DirtyPage) → lookUp q (dirtyOf s (w .frames)) ≡ at e → sound s ≡ true → s .cleaning ≡ Third q → s .stored ≡ 0 → s .next < 2 ^ 48 → (t : State)
       → contentsOf t (w .staging) ≡ cleanStored (contentsOf s (w .staging)) → ((p : ℕ) → lookUp p (dirtyOf t (w .frames)) ≡ lookUp p (without q (dirtyOf s (w .frames))))
-      → Good z (record { state = t; log = stored (s .slots) (w .log) (s .next) (cleanBlock s q (dirtyOf s (w .frames))); home = w .home; frames = w .frames; staging = w .staging }) b
+      → Good z (record { state = t; log = stored (s .slots) (w .log) (s .next) (cleanBlock s q (dirtyOf s (w .frames))); home = w .home; frames = w .frames; staging = w .staging }) b (history ++ (cleanAt q (s .next) ∷ []))
   clean-good q e f so c c0 bl t se dy =
       let r : Ready q e = ready q e f so in
       let l = r .lives in
-      let nx : s .next ≡ length (gd .history) + 1 = l .runs .next in
+      let nx : s .next ≡ length history + 1 = l .runs .next in
       let x : LogBlock = cleanAt q (s .next) in
       let k : CleanKept q (s .next) = clean-kept q e f r c c0 in
-      let kf = keep-facts (sizesOf z) _ (gd .home) _ (gd .history) x (k .0) in
+      let kf = keep-facts (sizesOf z) _ (gd .home) _ history x (k .0) in
       let tk : s .ticket < s .next - s .stored = r .fact .ticket in
       let cm : NumberFacts (z .slots) (s .next) (x .keepFrom) (x .ticket) = record { one = omega arith; most = bl; keep-one = kf .0; keep-most = omega (arith, kf .1); near = omega (arith, kf .2); ticket-below = omega arith } in
       let fk : KindFits (z .pages) (x .ticket) (x .kind) = r .below in
-      subst (λ (n : ℕ). Good z (record { state = t; log = stored n (w .log) (s .next) x; home = w .home; frames = w .frames; staging = w .staging }) b) (sym (l .slotCount))
+      subst (λ (n : ℕ). Good z (record { state = t; log = stored n (w .log) (s .next) x; home = w .home; frames = w .frames; staging = w .staging }) b (history ++ (x ∷ []))) (sym (l .slotCount))
       (record {
-        history = gd .history ++ (x ∷ []);
         home = gd .home;
         pages = gd .pages;
-        kept = subst (λ (y : List Slot). Kept (sizesOf z) y (gd .home) ledger₀ (gd .history ++ (x ∷ []))) (sym (stored-slots z range (w .log) (gd .logLong) (s .next) x fk cm)) (k .0);
+        kept = subst (λ (y : List Slot). Kept (sizesOf z) y (gd .home) ledger₀ (history ++ (x ∷ []))) (sym (stored-slots z range (w .log) (gd .logLong) (s .next) x fk cm)) (k .0);
         logLong = stored-long z range (w .log) (gd .logLong) (s .next) x fk;
         homeLong = gd .homeLong;
         homeIs = gd .homeIs;
         pagesAre = gd .pagesAre;
-        live = λ y. lives-from z (record { state = t; log = stored (z .slots) (w .log) (s .next) x; home = w .home; frames = w .frames; staging = w .staging }) b (gd .history ++ (x ∷ [])) (gd .home) (gd .pages) _ (cleanLive q) (s .next + 1)
+        live = λ y. lives-from z (record { state = t; log = stored (z .slots) (w .log) (s .next) x; home = w .home; frames = w .frames; staging = w .staging }) b (history ++ (x ∷ [])) (gd .home) (gd .pages) _ (cleanLive q) (s .next + 1)
             (record { pageCount = l .pageCount; slotCount = l .slotCount; frameCount = l .frameCount; next = refl; ticket = refl; queue = refl; stored = refl; cleaning = refl; list = l .list })
             y se dy (l .listFits) (l .queueFits) (k .1);
       })
 
   -- ---- CLEAN STEP
-  pub do-clean : (a : Reply) (w′ : World) → events.Cleaning w a w′ → Good z w′ b
+  abbrev leaves : Cleaning → ℕ → DirtyPage → State → World
+  leaves c q e t = record {
+    state = t;
+    log = cleanStore c s (w .log) (w .home) (dirtyOf s (w .frames)) (contentsOf s []) q e .log;
+    home = cleanStore c s (w .log) (w .home) (dirtyOf s (w .frames)) (contentsOf s []) q e .home;
+    frames = w .frames;
+    staging = w .staging;
+  }
+
+  pub do-clean : (a : Reply) (w′ : World) → events.Cleaning w a w′ → Good z w′ b (history ++ storedIn z cleanStep (accepts a) w w′)
   unfolding cleanRefusal cleanStore
-  do-clean a w′ st = rw (st .after) (by-eq (cleanRefusalOf s (w .log) (w .home) (w .frames)) 0
+  do-clean a w′ st = by-eq (cleanRefusalOf s (w .log) (w .home) (w .frames)) 0
       (λ e.
       let c2 = pick-zero (sound s) _ 2 (omega arith) e in
       let c1 = pick-zero (areasFit s (length (w .log)) (length (w .home)) (length (w .frames))) _ 1 (omega arith) (c2 .1) in
       let c10 = pick-other (eqb (dirtyCount s) 0) _ 10 (omega arith) (c1 .1) in
       let p = st .promise .accepted e in
-      rw (p .logIs, p .homeIs) (go (s .cleaning) refl (c2 .0) (c10 .1) (p .page) (p .entry) (p .found) (p .takes) (st .result .state) (p .contentsAre (w .staging)) (p .dirtyAre)))
+      rw (st .replyIs, p .answerIs, st .after, p .logIs, p .homeIs) (go (s .cleaning) refl (c2 .0) (c10 .1) (p .page) (p .entry) (p .found) (p .takes) (st .result .state) (p .contentsAre (w .staging)) (p .dirtyAre)))
       (λ n. let k = st .promise .refused n in
-      rw (k .1, k .2) (subst (λ (x : State). Good z (record { state = x; log = w .log; home = w .home; frames = w .frames; staging = w .staging }) b) (sym (k .0)) gd)))
+      rw (st .replyIs, st .after, refused-false (st .result .answer) _ (st .promise .refusal) n, k .1, k .2)
+      (subst (λ (x : State). Good z (record { state = x; log = w .log; home = w .home; frames = w .frames; staging = w .staging }) b (history ++ [])) (sym (k .0)) (none-stored gd)))
     where
       go : (c : Cleaning) → s .cleaning ≡ c → sound s ≡ true → thirdRefusal s c ≡ 0 → (q : ℕ) (e : DirtyPage) → lookUp q (dirtyOf s (w .frames)) ≡ at e → Takes c (dirtyOf s (w .frames)) q e → (t : State)
           → contentsOf t (w .staging) ≡ cleanStore c s (w .log) (w .home) (dirtyOf s (w .frames)) (contentsOf s (w .staging)) q e .contents
           → ((p : ℕ) → lookUp p (dirtyOf t (w .frames)) ≡ lookUp p (cleanStore c s (w .log) (w .home) (dirtyOf s (w .frames)) (contentsOf s []) q e .dirtyPages))
-          → Good z (record { state = t; log = cleanStore c s (w .log) (w .home) (dirtyOf s (w .frames)) (contentsOf s []) q e .log; home = cleanStore c s (w .log) (w .home) (dirtyOf s (w .frames)) (contentsOf s []) q e .home; frames = w .frames; staging = w .staging }) b
-      go Idle ec so h q e f tk t se dy = front-good q e f so t se dy
-      go (First p) ec so h q e f tk t se dy = front-good q e f so t se dy
-      go (Second p) ec so h q e f tk t se dy = back-good q e f so (ec ∙ ap Second (sym tk)) t se dy
+          → Good z (leaves c q e t) b (history ++ cond (storesBlock c) (newBlock z w (leaves c q e t)) [])
+      go Idle ec so h q e f tk t se dy = none-stored (front-good q e f so t se dy)
+      go (First p) ec so h q e f tk t se dy = none-stored (front-good q e f so t se dy)
+      go (Second p) ec so h q e f tk t se dy = none-stored (back-good q e f so (ec ∙ ap Second (sym tk)) t se dy)
       go (Third p) ec so h q e f tk t se dy =
           let a = pick-zero (eqb (s .stored) 0) _ 11 (omega arith) h in
           let c = pick-other (eqb (sequencesTaken s) (2 ^ 48)) _ 6 (omega arith) (a .1) in
           let ne : sequencesTaken s ≡ 2 ^ 48 → ⊥ = eqb-false _ _ (c .0) in
           let most : sequencesTaken s ≤ 2 ^ 48 = facts s (w .frames) so .sequences in
           let lt : sequencesTaken s < 2 ^ 48 = omega arith in
-          clean-good q e f so (ec ∙ ap Third (sym tk)) (eqb-true _ _ (a .0)) (omega arith) t se dy
+          one-stored z range w (leaves (Third p) q e t) b history (cleanAt q (s .next)) (gd .live so .runs .next)
+          (clean-good q e f so (ec ∙ ap Third (sym tk)) (eqb-true _ _ (a .0)) (omega arith) t se dy)

@@ -4,7 +4,7 @@ use mathlib.Core.Path.{_≡_, refl, sym, ap, _∙_, subst}
 use mathlib.Core.Logic.{_⊎_, ⊎-elim}
 use mathlib.Core.Bool.{Bool, true, false, cond}
 use Prim.Native.Nat.{ℕ, zero, suc, _+_, _*_, _-_, _/_, _≤_, _<_}
-use mathlib.Core.List.{List, [], _∷_}
+use mathlib.Core.List.{List, [], _∷_, _++_}
 use native.Mathlib.Omega.{arith}
 use lib.ListN.{length, replicate, length-replicate, getD}
 use lib.Dec.{eqb, leb, ltb}
@@ -14,6 +14,7 @@ use Rattle.promises.specs.declared.State.{State}
 use Rattle.promises.specs.declared.Answer.{Answer}
 use Rattle.promises.specs.Areas.{pageAt}
 use Rattle.promises.specs.Updates.{Update}
+use Rattle.promises.specs.Blocks.{LogBlock}
 use Rattle.promises.specs.Walk.{Walk, Finding, stops, stands}
 use Rattle.promises.specs.Contents.{allZeroState}
 use Rattle.promises.specs.Sound.{sound}
@@ -45,42 +46,45 @@ use Rattle.promises.specs.Events.{
 use Rattle.promises.specs.Claim.{entered, cutAt, both, promised, Run, formatted, called, unfit, cut, cutUnfit, Right, Safe, InRange, Claim}
 use Rattle.promises.proofs.History.Machine.{lastKeep}
 use Rattle.promises.proofs.History.Views.{viewFrom}
+use Rattle.promises.proofs.History.HalfEnd.{none}
 use Rattle.promises.proofs.History.Tally.{tally}
 use Rattle.promises.proofs.History.Recovered.{invariant-start}
-use Rattle.promises.proofs.History.Whole.{Kept, tally-none}
+use Rattle.promises.proofs.History.Rules.{ruled-none}
+use Rattle.promises.proofs.History.Whole.{same-book, tally-none}
 use Rattle.promises.proofs.Soundness.{all-zero-unsound}
 use Rattle.promises.proofs.Slots.{size-slots, blank-slots}
 use Rattle.promises.proofs.Ranges.{Ranged, ranged}
 use Rattle.promises.proofs.Replies.{no-accept, refused-number, end-refused-number, log-refused-number, accepted-done}
 use Rattle.promises.proofs.Kept.{sizesOf, bookOf, Good}
 use Rattle.promises.proofs.QuietCalls.{do-begin, do-describe, do-ending, answer-ending, answer-settling, answer-reading}
+use Rattle.promises.specs.Stored.{storedIn, storedBy}
+use Rattle.promises.proofs.StoredBlocks.{none-stored}
 use Rattle.promises.proofs.LogSteps.{do-log, answer-log}
 use Rattle.promises.proofs.CleanSteps.{do-clean}
 use Rattle.promises.proofs.Openings.{opens-right, do-open, reads-right}
 
 -- ---- a call
-do-call : (z : Sizes) (range : Ranged z) (w : World) (b : Book) → Good z w b → (c : Call) (a : Reply) (w′ : World) → Lent z c → Step c w a w′ → Good z w′ (entered c (accepts a) b)
-do-call z range w b g (opening frames staging) a w′ l st = do-open z range w b g frames staging (l .0) (l .1) a w′ st
-do-call z range w b g (begin u) a w′ l st = do-begin z w b g u a w′ st
-do-call z range w b g (describe u) a w′ l st = do-describe z w b g u a w′ st
-do-call z range w b g ending a w′ l st = do-ending z w b g a w′ st
+do-call : (z : Sizes) (range : Ranged z) (w : World) (b : Book) {h : List LogBlock} → Good z w b h → (c : Call) (a : Reply) (w′ : World) → Lent z c → Step c w a w′
+    → Good z w′ (entered c (accepts a) b) (h ++ storedIn z c (accepts a) w w′)
+do-call z range w b g (opening frames staging) a w′ l st = none-stored (do-open z range w b g frames staging (l .0) (l .1) a w′ st)
+do-call z range w b g (begin u) a w′ l st = none-stored (do-begin z w b g u a w′ st)
+do-call z range w b g (describe u) a w′ l st = none-stored (do-describe z w b g u a w′ st)
+do-call z range w b g ending a w′ l st = none-stored (do-ending z w b g a w′ st)
 do-call z range w b g logStep a w′ l st = do-log z range w b g a w′ st
 do-call z range w b g cleanStep a w′ l st = do-clean z range w b g a w′ st
-do-call z range w b g (reading p) a w′ l st = rw (st .after) g
-do-call z range w b g (settling t) a w′ l st = rw (st .after) g
+do-call z range w b g (reading p) a w′ l st = rw (st .after) (none-stored g)
+do-call z range w b g (settling t) a w′ l st = rw (st .after) (none-stored g)
 
 -- ---- a cut: only log and home are left, and what the book keeps of them
 pub not-sound : {X : Type 0} → sound allZeroState ≡ true → X
 not-sound e = no-accept (sym all-zero-unsound ∙ e)
 
-fall : (z : Sizes) (w : World) (b : Book) (frames staging : List ℕ) → Good z w b → Good z (fallen w frames staging) (gone b)
+fall : (z : Sizes) (w : World) (b : Book) (frames staging : List ℕ) {h : List LogBlock} → Good z w b h → Good z (fallen w frames staging) (gone b) h
 fall z w b frames staging g =
-    let k = g .kept in
     record {
-      history = g .history;
       home = g .home;
       pages = g .pages;
-      kept = record { holds = k .holds; formed = k .formed; total = k .total; roomy = k .roomy; disk = k .disk };
+      kept = same-book refl refl (g .kept);
       logLong = g .logLong;
       homeLong = g .homeLong;
       homeIs = g .homeIs;
@@ -88,22 +92,22 @@ fall z w b frames staging g =
       live = λ e. not-sound e;
     }
 
-do-cut : (z : Sizes) (range : Ranged z) (w : World) (b : Book) → Good z w b → (c : Call) (a : Reply) (w′ : World) (stored : Bool) (frames staging : List ℕ) → Lent z c → Step c w a w′
-    → Good z (fallen (cond stored w′ w) frames staging) (cutAt c (both stored (accepts a)) b)
-do-cut z range w b g c a w′ false frames staging l st = go c
+do-cut : (z : Sizes) (range : Ranged z) (w : World) (b : Book) {h : List LogBlock} → Good z w b h → (c : Call) (a : Reply) (w′ : World) (stored : Bool) (frames staging : List ℕ) → Lent z c → Step c w a w′
+    → Good z (fallen (cond stored w′ w) frames staging) (cutAt c (both stored (accepts a)) b) (h ++ storedIn z c (both stored (accepts a)) w w′)
+do-cut z range w b {h} g c a w′ false frames staging l st = go c
   where
-    go : (c : Call) → Good z (fallen w frames staging) (cutAt c false b)
-    go (opening f s) = fall z w b frames staging g
-    go (begin u) = fall z w b frames staging g
-    go (describe u) = fall z w b frames staging g
-    go ending = fall z w b frames staging g
-    go logStep = fall z w b frames staging g
-    go cleanStep = fall z w b frames staging g
-    go (reading p) = fall z w b frames staging g
-    go (settling t) = fall z w b frames staging g
-do-cut z range w b g c a w′ true frames staging l st = go c (accepts a) (do-call z range w b g c a w′ l st)
+    go : (c : Call) → Good z (fallen w frames staging) (cutAt c false b) (h ++ storedIn z c false w w′)
+    go (opening f s) = none-stored (fall z w b frames staging g)
+    go (begin u) = none-stored (fall z w b frames staging g)
+    go (describe u) = none-stored (fall z w b frames staging g)
+    go ending = none-stored (fall z w b frames staging g)
+    go logStep = none-stored (fall z w b frames staging g)
+    go cleanStep = none-stored (fall z w b frames staging g)
+    go (reading p) = none-stored (fall z w b frames staging g)
+    go (settling t) = none-stored (fall z w b frames staging g)
+do-cut z range w b {h} g c a w′ true frames staging l st = go c (accepts a) (do-call z range w b g c a w′ l st)
   where
-    go : (c : Call) (ok : Bool) → Good z w′ (entered c ok b) → Good z (fallen w′ frames staging) (cutAt c ok b)
+    go : (c : Call) (ok : Bool) → Good z w′ (entered c ok b) (h ++ storedIn z c ok w w′) → Good z (fallen w′ frames staging) (cutAt c ok b) (h ++ storedIn z c ok w w′)
     go (opening f s) ok x = fall z w′ (gone b) frames staging x
     go (begin u) true x = fall z w′ (begun b) frames staging x
     go (begin u) false x = fall z w′ b frames staging x
@@ -155,7 +159,7 @@ unfit-state cleanStep n a w w′ h e st =
 unfit-state (reading p) n a w w′ h e st = ap (λ (v : World). v .state) (st .after)
 unfit-state (settling t) n a w w′ h e st = ap (λ (v : World). v .state) (st .after)
 
-do-unfit : (z : Sizes) (w : World) (b : Book) → Good z w b → (c : Call) (t : State) → Unfit c (w .state) t → Good z (withState w t) (entered c false b)
+do-unfit : (z : Sizes) (w : World) (b : Book) {h : List LogBlock} → Good z w b h → (c : Call) (t : State) → Unfit c (w .state) t → Good z (withState w t) (entered c false b) h
 do-unfit z w b g (opening frames staging) t e = rw e (fall z w b (w .frames) (w .staging) g)
 do-unfit z w b g (begin u) t e = rw e g
 do-unfit z w b g (describe u) t e = rw e g
@@ -181,18 +185,20 @@ paged-long P home e p = either p P
     (λ h. simp (le-ltb p P h))
 
 at-start : (z : Sizes) (range : Ranged z) (log home frames staging : List ℕ) → length log ≡ z .slots * 512 → length home ≡ z .pages * 1024
-    → Good z (record { state = allZeroState; log = replicate (length log) 0; home = home; frames = frames; staging = staging }) (blank home)
+    → Good z (record { state = allZeroState; log = replicate (length log) 0; home = home; frames = frames; staging = staging }) (blank home) []
 unfolding lastKeep tally viewFrom
 at-start z range log home frames staging l h =
     let i = invariant-start (paged (z .pages) home) (paged-long (z .pages) home h) in
-    subst (λ (n : ℕ). Good z (record { state = allZeroState; log = replicate n 0; home = home; frames = frames; staging = staging }) (blank home)) (sym l)
+    subst (λ (n : ℕ). Good z (record { state = allZeroState; log = replicate n 0; home = home; frames = frames; staging = staging }) (blank home) []) (sym l)
     (record {
-      history = [];
       home = paged (z .pages) home;
       pages = paged (z .pages) home;
       kept = record {
-        holds = record { size = size-slots (z .slots) (z .pages) (replicate (z .slots * 512) 0); recent = λ j x y v. absurd (omega arith); past = λ j. rw (blank-slots (z .slots) (z .pages) j) tt };
+        holds = record { size = size-slots (z .slots) (z .pages) (replicate (z .slots * 512) 0); begun = omega arith; recent = λ j x y v. absurd (omega arith); past = λ j. rw (blank-slots (z .slots) (z .pages) j) tt };
+        based = omega arith;
+        half = none refl;
         formed = tt;
+        ruled = ruled-none (z .slots) (z .frames) (z .pages) 1;
         total = refl;
         roomy = omega (arith, tally-none (z .pages));
         disk = i .disk;
@@ -206,32 +212,34 @@ at-start z range log home frames staging l h =
 
 -- ---- every run
 on-formatted : (z : Sizes) (range : Ranged z) (w : World) (b : Book) (log log′ home frames staging : List ℕ) (r : Answer) → length log ≡ z .slots * 512 → length home ≡ z .pages * 1024
-    → Formats log r log′ → w ≡ record { state = allZeroState; log = log′; home = home; frames = frames; staging = staging } → b ≡ blank home → Good z w b
+    → Formats log r log′ → w ≡ record { state = allZeroState; log = log′; home = home; frames = frames; staging = staging } → b ≡ blank home → Good z w b []
 on-formatted z range w b log log′ home frames staging r l h f e q =
     let n : length log / 512 ≡ z .slots = omega arith in
     let ok : formatRefusal (length log) ≡ 0 = rw n (simp (eq-eqb (z .slots * 512) (length log) (sym l), le-leb 8 (z .slots) (range .slots .0), le-leb (z .slots) 1024 (range .slots .1))) in
     rw (e, q, f .accepted ok .1) (at-start z range log home frames staging l h)
 
-on-called : (z : Sizes) (range : Ranged z) (w w′ : World) (b b′ : Book) (c : Call) (a : Reply) → Good z w b → Lent z c → Step c w a w′ → b′ ≡ entered c (accepts a) b → Good z w′ b′
-on-called z range w w′ b b′ c a g l st e = subst (Good z w′) (sym e) (do-call z range w b g c a w′ l st)
+on-called : (z : Sizes) (range : Ranged z) (w w′ : World) (b b′ : Book) {h : List LogBlock} (c : Call) (a : Reply) → Good z w b h → Lent z c → Step c w a w′ → b′ ≡ entered c (accepts a) b
+    → Good z w′ b′ (h ++ storedIn z c (accepts a) w w′)
+on-called z range w w′ b b′ {h} c a g l st e = subst (λ (x : Book). Good z w′ x (h ++ storedIn z c (accepts a) w w′)) (sym e) (do-call z range w b g c a w′ l st)
 
-on-unfit : (z : Sizes) (w w′ : World) (b b′ : Book) (c : Call) (a : Reply) (lent lent′ : World) → Good z w b → lent .state ≡ w .state → Step c lent a lent′
-    → (a ≡ refuses 1) ⊎ (a ≡ refuses 2) → w′ ≡ withState w (lent′ .state) → b′ ≡ entered c false b → Good z w′ b′
-on-unfit z w w′ b b′ c a lent lent′ g same st r e q =
+on-unfit : (z : Sizes) (w w′ : World) (b b′ : Book) {h : List LogBlock} (c : Call) (a : Reply) (lent lent′ : World) → Good z w b h → lent .state ≡ w .state → Step c lent a lent′
+    → (a ≡ refuses 1) ⊎ (a ≡ refuses 2) → w′ ≡ withState w (lent′ .state) → b′ ≡ entered c false b → Good z w′ b′ h
+on-unfit z w w′ b b′ {h} c a lent lent′ g same st r e q =
     let u : Unfit c (lent .state) (lent′ .state) = ⊎-elim (λ (x : a ≡ refuses 1). unfit-state c 1 a lent lent′ (omega arith) x st) (λ (x : a ≡ refuses 2). unfit-state c 2 a lent lent′ (omega arith) x st) r in
-    subst (λ (v : World). Good z v b′) (sym e) (subst (Good z (withState w (lent′ .state))) (sym q) (do-unfit z w b g c (lent′ .state) (subst (λ (s : State). Unfit c s (lent′ .state)) same u)))
+    subst (λ (v : World). Good z v b′ h) (sym e) (subst (λ (x : Book). Good z (withState w (lent′ .state)) x h) (sym q) (do-unfit z w b g c (lent′ .state) (subst (λ (s : State). Unfit c s (lent′ .state)) same u)))
 
-on-cut : (z : Sizes) (range : Ranged z) (w w″ : World) (b b″ : Book) (c : Call) (a : Reply) (w′ : World) (stored : Bool) (frames staging : List ℕ) → Good z w b → Lent z c → Step c w a w′
-    → w″ ≡ fallen (cond stored w′ w) frames staging → b″ ≡ cutAt c (both stored (accepts a)) b → Good z w″ b″
-on-cut z range w w″ b b″ c a w′ stored frames staging g l st e q =
-    subst (λ (v : World). Good z v b″) (sym e) (subst (Good z (fallen (cond stored w′ w) frames staging)) (sym q) (do-cut z range w b g c a w′ stored frames staging l st))
+on-cut : (z : Sizes) (range : Ranged z) (w w″ : World) (b b″ : Book) {h : List LogBlock} (c : Call) (a : Reply) (w′ : World) (stored : Bool) (frames staging : List ℕ) → Good z w b h → Lent z c → Step c w a w′
+    → w″ ≡ fallen (cond stored w′ w) frames staging → b″ ≡ cutAt c (both stored (accepts a)) b → Good z w″ b″ (h ++ storedIn z c (both stored (accepts a)) w w′)
+on-cut z range w w″ b b″ {h} c a w′ stored frames staging g l st e q =
+    subst (λ (v : World). Good z v b″ (h ++ storedIn z c (both stored (accepts a)) w w′)) (sym e)
+    (subst (λ (x : Book). Good z (fallen (cond stored w′ w) frames staging) x (h ++ storedIn z c (both stored (accepts a)) w w′)) (sym q) (do-cut z range w b g c a w′ stored frames staging l st))
 
-on-cut-unfit : (z : Sizes) (w w″ : World) (b b″ : Book) (c : Call) (frames staging : List ℕ) → Good z w b → w″ ≡ fallen w frames staging
-    → b″ ≡ cutAt c false b → Good z w″ b″
-on-cut-unfit z w w″ b b″ c frames staging g e q =
-    subst (λ (v : World). Good z v b″) (sym e) (subst (Good z (fallen w frames staging)) (sym q) (go c))
+on-cut-unfit : (z : Sizes) (w w″ : World) (b b″ : Book) {h : List LogBlock} (c : Call) (frames staging : List ℕ) → Good z w b h → w″ ≡ fallen w frames staging
+    → b″ ≡ cutAt c false b → Good z w″ b″ h
+on-cut-unfit z w w″ b b″ {h} c frames staging g e q =
+    subst (λ (v : World). Good z v b″ h) (sym e) (subst (λ (x : Book). Good z (fallen w frames staging) x h) (sym q) (go c))
   where
-    go : (c : Call) → Good z (fallen w frames staging) (cutAt c false b)
+    go : (c : Call) → Good z (fallen w frames staging) (cutAt c false b) h
     go (opening f s) = fall z w b frames staging g
     go (begin u) = fall z w b frames staging g
     go (describe u) = fall z w b frames staging g
@@ -241,7 +249,9 @@ on-cut-unfit z w w″ b b″ c frames staging g e q =
     go (reading p) = fall z w b frames staging g
     go (settling t) = fall z w b frames staging g
 
-good : (z : Sizes) → Ranged z → (w : World) (b : Book) → Run promised z w b → Good z w b
+-- THE HISTORY IS THE LIST OF THE BLOCKS THAT THE RUN STORED
+pub good : (z : Sizes) → Ranged z → (w : World) (b : Book) (run : Run promised z w b) → Good z w b (storedBy run)
+unfolding storedBy
 good z range w b (formatted log log′ home frames staging r l h f e q) = on-formatted z range w b log log′ home frames staging r l h f e q
 good z range w b (called {world = w₀} {book = b₀} c a run l st e) = on-called z range w₀ w b₀ b c a (good z range w₀ b₀ run) l st e
 good z range w b (unfit {world = w₀} {book = b₀} c a lent lent′ run same st r e q) = on-unfit z w₀ w b₀ b c a lent lent′ (good z range w₀ b₀ run) same st r e q
@@ -250,7 +260,7 @@ good z range w b (cutUnfit {world = w₀} {book = b₀} c a lent lent′ frames 
     on-cut-unfit z w₀ w b₀ b c frames staging (good z range w₀ b₀ run) e q
 
 -- ---- the answers
-answer : (z : Sizes) (range : Ranged z) (w : World) (b : Book) → Good z w b → (c : Call) (a : Reply) (w′ : World) → Lent z c → Step c w a w′ → accepts a ≡ true → Right c a b
+answer : (z : Sizes) (range : Ranged z) (w : World) (b : Book) {h : List LogBlock} → Good z w b h → (c : Call) (a : Reply) (w′ : World) → Lent z c → Step c w a w′ → accepts a ≡ true → Right c a b
 answer z range w b g (opening frames staging) a w′ l st ok = opens-right z range w b g frames staging (l .0) (l .1) a w′ st
 answer z range w b g (begin u) a w′ l st ok = st .replyIs ∙ accepted-done (st .result .answer) (ap accepts (sym (st .replyIs)) ∙ ok)
 answer z range w b g (describe u) a w′ l st ok = st .replyIs ∙ accepted-done (st .result .answer) (ap accepts (sym (st .replyIs)) ∙ ok)
@@ -264,7 +274,7 @@ answer z range w b g (settling t) a w′ l st ok = answer-settling z w b g t a w
 pub demand-three : Claim promised
 demand-three z inRange w b run =
     let range = ranged z inRange in
-    let g : Good z w b = good z range w b run in
+    let g = good z range w b run in
     record {
       answers = answer z range w b g;
       opens = λ frames staging a w′ l st. opens-right z range w b g frames staging (l .0) (l .1) a w′ st;

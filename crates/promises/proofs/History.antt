@@ -14,5 +14,9 @@ pub mod Tally
 pub mod Invariant
 pub mod Recovered
 pub mod Accepted
+pub mod HalfEnd
+pub mod KeepFrom
+pub mod Rules
 pub mod Whole
 pub mod Reopened
+pub mod DamagedEnd

@@ -35,7 +35,7 @@ use Rattle.promises.proofs.SoundFacts.{Facts, facts}
 
 -- ---- the invariant's own terms
 abbrev pub sizesOf : Sizes → full.Sizes
-sizesOf z = record { N = z .slots; F = z .frames; P = z .pages }
+sizesOf z = record { N = z .slots; F = z .frames; P = z .pages; base = 1 }
 
 abbrev pub bookOf : (ℕ → List ℕ) → Book → ledger.Book
 bookOf pages b = record { pages = pages; m = b .m; queue = b .queue; count = b .count }
@@ -72,8 +72,7 @@ pub record Lives (z : Sizes) (w : World) (b : Book) (history : List LogBlock) (h
   pub runs : Runs (sizesOf z) home (bookOf pages b) history (w .state .next) (liveOf (w .state) (w .frames) (w .staging))
 
 -- home and pages are those of the world and the book, as far as there are pages
-pub record Good (z : Sizes) (w : World) (b : Book) : Type 0 where
-  pub history : List LogBlock
+pub record Good (z : Sizes) (w : World) (b : Book) (history : List LogBlock) : Type 0 where
   pub home : ℕ → List ℕ
   pub pages : ℕ → List ℕ
   pub kept : Kept (sizesOf z) (slotsOf (z .slots) (z .pages) (w .log)) home (bookOf pages b) history
@@ -116,12 +115,6 @@ pub apply-all-cong : (P s : ℕ) (home home′ : ℕ → List ℕ) (us : List Up
 unfolding applyAll
 apply-all-cong P s home home′ [] es h l = refl
 apply-all-cong P s home home′ (u ∷ us) es h l = rw (apply-cong P s home home′ u es h (l .0)) (apply-all-cong P s home home′ us (apply s home′ u es) h (l .1))
-
--- a page that is found is a page
-pub lookUp-page : (P q : ℕ) (e : DirtyPage) (es : List DirtyPage) → lookUp q es ≡ at e → Pages P es → q < P
-unfolding lookUp
-lookUp-page P q e [] f p = let x : _≡_ {A = ℕ} 0 1 = cc in absurd (omega arith)
-lookUp-page P q e (y ∷ es) f p = by-eq q (y .page) (λ x. rw x (p .0)) (λ n. lookUp-page P q e es (simp (ne-eqb _ _ n) at f) (p .1))
 
 -- ---- the same runs, said of another list of dirty pages that finds the same
 module _ (z : full.Sizes) (home : ℕ → List ℕ) (b : ledger.Book) (history : List LogBlock) (n : ℕ) (l l′ : Live) where

@@ -1,3 +1,4 @@
+pub mod Gathered
 pub mod History
 pub mod Pages
 pub mod Slots
@@ -10,6 +11,7 @@ pub mod Kept
 pub mod Replies
 pub mod QuietCalls
 pub mod Ranges
+pub mod StoredBlocks
 pub mod LogSteps
 pub mod CleanSteps
 pub mod Openings
@@ -24,5 +26,6 @@ pub mod AlikeRefusals
 pub mod OpenFindings
 pub mod AlikeSteps
 pub mod Refines
+pub mod SilentLoss
 pub mod Corollaries
 pub mod DesksAlike

@@ -3,16 +3,17 @@
 use mathlib.Core.Path.{_≡_, refl, sym, ap, _∙_, subst}
 use mathlib.Core.Bool.{Bool, true, false, cond, not, _&&_, _||_}
 use Prim.Native.Nat.{ℕ, zero, suc, _+_, _*_, _-_, _%_, _^_, _≤_, _<_, min}
-use mathlib.Core.List.{List, [], _∷_, _++_, map}
+use mathlib.Core.List.{List, [], _∷_, _++_, map, append-nil}
 use native.Mathlib.Omega.{arith}
 use native.Mathlib.Nat.{mod-lt}
 use lib.ListN.{length, take, drop, getD, length-take, length-append}
+use lib.Seq.{getD-append-seam}
 use lib.Dec.{eqb, leb, ltb}
 use borrow.Author.Tests.{leb-true, ltb-true, eqb-true, eqb-false, eq-eqb, ne-eqb, lt-ltb, le-ltb}
 use Rattle.promises.specs.declared.State.{State}
 use Rattle.promises.specs.Areas.{pageAt, withSlot}
 use Rattle.promises.specs.Updates.{Update, put, redo, ofPage}
-use Rattle.promises.specs.Blocks.{Kind, update, commit, clean, LogBlock, written, Slot, slotsOf}
+use Rattle.promises.specs.Blocks.{Kind, update, commit, clean, LogBlock, written, Slot, unused, valid, slotAt, slotsOf}
 use Rattle.promises.specs.DirtyPages.{DirtyPage, lookUp, keepFromOf, apply, applyAll}
 use Rattle.promises.specs.Contents.{Contents, contentsOf, dirtyOf, groupsOf, grouped, queueOf, listOf, waiting, total}
 use Rattle.promises.specs.Sound.{sound, ofOldest}
@@ -31,35 +32,21 @@ use Rattle.promises.proofs.History.WalkStart.{lastKeep-snoc}
 use Rattle.promises.proofs.History.Invariant.{Keep, empty, from, Wells}
 use Rattle.promises.proofs.History.Invariant as inv
 use Rattle.promises.proofs.History.Recovered.{by-lt}
-use Rattle.promises.proofs.History.Reopened.{begins-le}
+use Rattle.promises.proofs.History.HalfEnd.{begins-le}
+use Rattle.promises.proofs.History.KeepFrom.{keep-applied}
 use Rattle.promises.proofs.History.Whole.{Kept, Runs, Room, kept-update, kept-commit, count-le}
 use Rattle.promises.specs.Book.{Book, counted, committed, stepped, steppedOver}
 use Rattle.promises.specs.Events.{Sizes, World, Call, logStep, Reply, done, settles, accepts, logAnswered, Logging}
 use Rattle.promises.specs.Claim.{entered}
+use Rattle.promises.specs.Stored.{newBlock, storedIn}
 use Rattle.promises.proofs.Ranges.{Ranged}
 use Rattle.area.proofs.Parts.{length-splice}
 use Rattle.block.proofs.Facts.{NumberFacts}
 use Rattle.promises.proofs.Slots.{KindFits, slots-store, length-written}
 use Rattle.promises.proofs.SoundFacts.{and-left, and-right, Facts, facts, length-queue}
 use Rattle.promises.proofs.Kept.{sizesOf, bookOf, liveOf, stageOf, Fit, Fits, FitsAll, Lives, Good, fits-updates, fits-at, apply-all-cong, Matches, lives-from, cleaning-after}
+use Rattle.promises.proofs.StoredBlocks.{none-stored, one-stored}
 use Rattle.promises.proofs.Replies.{log-refused-false, no-accept}
-
--- the pages that a commit makes dirty have its group's own start as first group, which counts anyway
-keep-apply : (start : ℕ) (home : ℕ → List ℕ) (u : Update) (es : List DirtyPage) → keepFromOf start (apply start home u es) ≡ keepFromOf start es
-unfolding keepFromOf apply
-keep-apply start home u [] = omega arith
-keep-apply start home u (e ∷ es) = go (eqb (u .page) (e .page)) (keep-apply start home u es)
-  where
-    go : (b : Bool) → keepFromOf start (apply start home u es) ≡ keepFromOf start es
-        → keepFromOf start (cond b (record { page = e .page; first = e .first; bytes = put u (e .bytes) } ∷ es) (e ∷ apply start home u es))
-        ≡ keepFromOf start (e ∷ es)
-    go true h = refl
-    go false h = ap (min (e .first)) h
-
-pub keep-applied : (start : ℕ) (home : ℕ → List ℕ) (us : List Update) (es : List DirtyPage) → keepFromOf start (applyAll start home us es) ≡ keepFromOf start es
-unfolding applyAll
-keep-applied start home [] es = refl
-keep-applied start home (u ∷ us) es = keep-applied start home us (apply start home u es) ∙ keep-apply start home u es
 
 -- keep-from of the newest block
 pub keep-facts : (z : full.Sizes) (log : List Slot) (home : ℕ → List ℕ) (b : ledger.Book) (history : List LogBlock) (x : LogBlock) → Kept z log home b (history ++ (x ∷ []))
@@ -101,7 +88,7 @@ module _ (z : Sizes) (range : Ranged z) (log : List ℕ) (long : length log ≡ 
   pub stored-slots : NumberFacts (z .slots) n (x .keepFrom) (x .ticket) → slotsOf (z .slots) (z .pages) (stored (z .slots) log n x) ≡ store (z .slots) n x (slotsOf (z .slots) (z .pages) log)
   stored-slots c = slots-store (z .slots) (z .pages) n log x (omega arith) (omega arith) long c fits
 
-module _ (z : Sizes) (range : Ranged z) (w : World) (b : Book) (gd : Good z w b) where
+module _ (z : Sizes) (range : Ranged z) (w : World) (b : Book) {history : List LogBlock} (gd : Good z w b history) where
   abbrev s : State
   s = w .state
 
@@ -116,7 +103,7 @@ module _ (z : Sizes) (range : Ranged z) (w : World) (b : Book) (gd : Good z w b)
 
   -- what an accepted Log step starts from
   pub record Ready (g : List Update) (q : List (List Update)) : Type 0 where
-    pub lives : Lives z w b (gd .history) (gd .home) (gd .pages)
+    pub lives : Lives z w b history (gd .home) (gd .pages)
     pub fact : Facts s (w .frames)
     pub head : Head (s .stored) (groupsOf s) g
     pub fits : Fits (z .pages) g
@@ -130,13 +117,13 @@ module _ (z : Sizes) (range : Ranged z) (w : World) (b : Book) (gd : Good z w b)
 
   ready : (g : List Update) (q : List (List Update)) → queueOf s (w .staging) ≡ g ∷ q → sound s ≡ true → Ready g q
   ready g q e so =
-      let l : Lives z w b (gd .history) (gd .home) (gd .pages) = gd .live so in
+      let l : Lives z w b history (gd .home) (gd .pages) = gd .live so in
       let f : Facts s (w .frames) = facts s (w .frames) so in
       let h : Head (s .stored) (groupsOf s) g = heads (s .stored) (groupsOf s) (map (waiting (w .staging)) (s .staged)) g q e (f .half) in
       let bq : b .queue ≡ g ∷ q = sym (l .runs .alive .queue) ∙ e in
       let fq : FitsAll (z .pages) (g ∷ q) = subst (FitsAll (z .pages)) bq (l .queueFits) in
       let ws : Wells (g ∷ q) = subst Wells e (l .runs .alive .wells) in
-      let le : s .stored ≤ length g = count-le (gd .history) (b .m) (s .stored) g (queueOf s (w .staging)) q e (l .runs .alive .half) in
+      let le : s .stored ≤ length g = count-le history (b .m) (s .stored) g (queueOf s (w .staging)) q e (l .runs .alive .half) in
       let n1 : s .slots ≡ z .slots = l .slotCount in
       let n2 : s .frames ≡ z .frames = l .frameCount in
       record {
@@ -154,33 +141,33 @@ module _ (z : Sizes) (range : Ranged z) (w : World) (b : Book) (gd : Good z w b)
       }
 
   -- ---- an update is stored
-  abbrev updateAt : List Update → ℕ → LogBlock
+  abbrev pub updateAt : List Update → ℕ → LogBlock
   updateAt g n = record { kind = update (s .stored + 1) (getD g (s .stored) machine.noUpdate); keepFrom = keepFromOf (n - s .stored) (dirtyOf s (w .frames)); ticket = s .ticket }
 
   abbrev updateLive : Live
   updateLive = record { ticket = s .ticket; queue = queueOf s (w .staging); count = s .stored + 1; dirtyPages = dirtyOf s (w .frames); cleaning = stageOf (s .cleaning) }
 
   abbrev UpdateKept : List Update → ℕ → Type 0
-  UpdateKept g n = Kept (sizesOf z) (store (z .slots) n (updateAt g n) slots₀) (gd .home) (bookOf (gd .pages) (counted b)) (gd .history ++ (updateAt g n ∷ []))
-      × Runs (sizesOf z) (gd .home) (bookOf (gd .pages) (counted b)) (gd .history ++ (updateAt g n ∷ [])) (n + 1) updateLive
+  UpdateKept g n = Kept (sizesOf z) (store (z .slots) n (updateAt g n) slots₀) (gd .home) (bookOf (gd .pages) (counted b)) (history ++ (updateAt g n ∷ []))
+      × Runs (sizesOf z) (gd .home) (bookOf (gd .pages) (counted b)) (history ++ (updateAt g n ∷ [])) (n + 1) updateLive
 
   update-kept : (g : List Update) (q : List (List Update)) → queueOf s (w .staging) ≡ g ∷ q → Ready g q → s .stored < length g → UpdateKept g (s .next)
   update-kept g q e r h =
-      let nx : s .next ≡ length (gd .history) + 1 = r .lives .runs .next in
-      let rn : Runs (sizesOf z) (gd .home) ledger₀ (gd .history) (length (gd .history) + 1) k₀ = subst (λ (i : ℕ). Runs (sizesOf z) (gd .home) ledger₀ (gd .history) i k₀) nx (r .lives .runs) in
-      let rm : Room (sizesOf z) (length (gd .history) + 1) k₀ g = subst (λ (i : ℕ). Room (sizesOf z) i k₀ g) nx (r .room) in
-      let k = kept-update (sizesOf z) slots₀ (gd .home) ledger₀ (gd .history) k₀ (omega arith) (gd .kept) rn g q e h rm in
-      subst (UpdateKept g) (sym nx) (k .0, subst (λ (i : ℕ). Runs (sizesOf z) (gd .home) (bookOf (gd .pages) (counted b)) (gd .history ++ (updateAt g (length (gd .history) + 1) ∷ [])) i updateLive) (omega arith) (k .1))
+      let nx : s .next ≡ length history + 1 = r .lives .runs .next in
+      let rn : Runs (sizesOf z) (gd .home) ledger₀ history (length history + 1) k₀ = subst (λ (i : ℕ). Runs (sizesOf z) (gd .home) ledger₀ history i k₀) nx (r .lives .runs) in
+      let rm : Room (sizesOf z) (length history + 1) k₀ g = subst (λ (i : ℕ). Room (sizesOf z) i k₀ g) nx (r .room) in
+      let k = kept-update (sizesOf z) slots₀ (gd .home) ledger₀ history k₀ (omega arith) (gd .kept) rn g q e h rm in
+      subst (UpdateKept g) (sym nx) (k .0, subst (λ (i : ℕ). Runs (sizesOf z) (gd .home) (bookOf (gd .pages) (counted b)) (history ++ (updateAt g (length history + 1) ∷ [])) i updateLive) (omega arith) (k .1))
 
   pub do-update : (g : List Update) (q : List (List Update)) → queueOf s (w .staging) ≡ g ∷ q → sound s ≡ true → s .stored < length g
-      → (a : Reply) (w′ : World) (st : Logging w a w′) → UpdateStep s g (w .log) (w .frames) (w .staging) (st .result) (st .log′) (st .frames′) → Good z w′ (counted b)
+      → (a : Reply) (w′ : World) (st : Logging w a w′) → UpdateStep s g (w .log) (w .frames) (w .staging) (st .result) (st .log′) (st .frames′) → Good z w′ (counted b) (history ++ (updateAt g (s .next) ∷ []))
   do-update g q e so h a w′ st u =
       let r : Ready g q = ready g q e so in
       let l = r .lives in
-      let nx : s .next ≡ length (gd .history) + 1 = l .runs .next in
+      let nx : s .next ≡ length history + 1 = l .runs .next in
       let x : LogBlock = updateAt g (s .next) in
       let k : UpdateKept g (s .next) = update-kept g q e r h in
-      let kf = keep-facts (sizesOf z) _ (gd .home) _ (gd .history) x (k .0) in
+      let kf = keep-facts (sizesOf z) _ (gd .home) _ history x (k .0) in
       let tk : s .ticket < s .next - s .stored = r .fact .ticket in
       let cm : NumberFacts (z .slots) (s .next) (x .keepFrom) (x .ticket) = record { one = omega arith; most = r .below; keep-one = kf .0; keep-most = omega (arith, kf .1); near = omega (arith, kf .2); ticket-below = omega arith } in
       let fu : Fit (z .pages) (getD g (s .stored) machine.noUpdate) = fits-at (z .pages) g (s .stored) machine.noUpdate h (r .fits) in
@@ -190,21 +177,20 @@ module _ (z : Sizes) (range : Ranged z) (w : World) (b : Book) (gd : Good z w b)
       let le : st .log′ ≡ stored (z .slots) (w .log) (s .next) x = u .logIs ∙ ap (λ (n : ℕ). stored n (w .log) (s .next) x) (l .slotCount) in
       let se : slotsOf (z .slots) (z .pages) (st .log′) ≡ store (z .slots) (s .next) x slots₀ = ap (slotsOf (z .slots) (z .pages)) le ∙ stored-slots z range (w .log) (gd .logLong) (s .next) x fk cm in
       rw (st .after) (record {
-        history = gd .history ++ (x ∷ []);
         home = gd .home;
         pages = gd .pages;
-        kept = subst (λ (y : List Slot). Kept (sizesOf z) y (gd .home) (bookOf (gd .pages) (counted b)) (gd .history ++ (x ∷ []))) (sym se) (k .0);
+        kept = subst (λ (y : List Slot). Kept (sizesOf z) y (gd .home) (bookOf (gd .pages) (counted b)) (history ++ (x ∷ []))) (sym se) (k .0);
         logLong = ap length le ∙ stored-long z range (w .log) (gd .logLong) (s .next) x fk;
         homeLong = gd .homeLong;
         homeIs = gd .homeIs;
         pagesAre = gd .pagesAre;
-        live = λ y. lives-from z (record { state = st .result .state; log = st .log′; home = w .home; frames = st .frames′; staging = w .staging }) (counted b) (gd .history ++ (x ∷ [])) (gd .home) (gd .pages) _ updateLive (s .next + 1)
+        live = λ y. lives-from z (record { state = st .result .state; log = st .log′; home = w .home; frames = st .frames′; staging = w .staging }) (counted b) (history ++ (x ∷ [])) (gd .home) (gd .pages) _ updateLive (s .next + 1)
             (record { pageCount = l .pageCount; slotCount = l .slotCount; frameCount = l .frameCount; next = refl; ticket = refl; queue = refl; stored = refl; cleaning = refl; list = l .list })
             y (u .contentsAre) (λ p. rw (u .framesAre) (u .dirtyAre p)) (l .listFits) (l .queueFits) (k .1);
       })
 
   -- ---- a commit is stored
-  abbrev commitAt : List Update → ℕ → LogBlock
+  abbrev pub commitAt : List Update → ℕ → LogBlock
   commitAt g n = record { kind = commit (length g); keepFrom = keepFromOf (n - s .stored) (dirtyOf s (w .frames)); ticket = s .ticket + 1 }
 
   abbrev commitLive : List Update → List (List Update) → ℕ → Live
@@ -214,27 +200,27 @@ module _ (z : Sizes) (range : Ranged z) (w : World) (b : Book) (gd : Good z w b)
   newPages g p = redo (ofPage p g) (gd .pages p)
 
   abbrev CommitKept : List Update → List (List Update) → ℕ → Type 0
-  CommitKept g q n = Kept (sizesOf z) (store (z .slots) n (commitAt g n) slots₀) (gd .home) (bookOf (newPages g) (committed b g q)) (gd .history ++ (commitAt g n ∷ []))
-      × Runs (sizesOf z) (gd .home) (bookOf (newPages g) (committed b g q)) (gd .history ++ (commitAt g n ∷ [])) (n + 1) (commitLive g q n)
+  CommitKept g q n = Kept (sizesOf z) (store (z .slots) n (commitAt g n) slots₀) (gd .home) (bookOf (newPages g) (committed b g q)) (history ++ (commitAt g n ∷ []))
+      × Runs (sizesOf z) (gd .home) (bookOf (newPages g) (committed b g q)) (history ++ (commitAt g n ∷ [])) (n + 1) (commitLive g q n)
 
   commit-kept : (g : List Update) (q : List (List Update)) → queueOf s (w .staging) ≡ g ∷ q → Ready g q → length g ≤ s .stored → CommitKept g q (s .next)
   commit-kept g q e r h =
-      let nx : s .next ≡ length (gd .history) + 1 = r .lives .runs .next in
+      let nx : s .next ≡ length history + 1 = r .lives .runs .next in
       let hf : s .stored ≤ length g = r .half in
-      let rn : Runs (sizesOf z) (gd .home) ledger₀ (gd .history) (length (gd .history) + 1) k₀ = subst (λ (i : ℕ). Runs (sizesOf z) (gd .home) ledger₀ (gd .history) i k₀) nx (r .lives .runs) in
-      let rm : Room (sizesOf z) (length (gd .history) + 1) k₀ g = subst (λ (i : ℕ). Room (sizesOf z) i k₀ g) nx (r .room) in
-      let k = kept-commit (sizesOf z) slots₀ (gd .home) ledger₀ (gd .history) k₀ (omega arith) (gd .kept) rn g q e (omega arith) rm in
-      subst (CommitKept g q) (sym nx) (k .0, subst (λ (i : ℕ). Runs (sizesOf z) (gd .home) (bookOf (newPages g) (committed b g q)) (gd .history ++ (commitAt g (length (gd .history) + 1) ∷ [])) i (commitLive g q (length (gd .history) + 1))) (omega arith) (k .1))
+      let rn : Runs (sizesOf z) (gd .home) ledger₀ history (length history + 1) k₀ = subst (λ (i : ℕ). Runs (sizesOf z) (gd .home) ledger₀ history i k₀) nx (r .lives .runs) in
+      let rm : Room (sizesOf z) (length history + 1) k₀ g = subst (λ (i : ℕ). Room (sizesOf z) i k₀ g) nx (r .room) in
+      let k = kept-commit (sizesOf z) slots₀ (gd .home) ledger₀ history k₀ (omega arith) (gd .kept) rn g q e (omega arith) rm in
+      subst (CommitKept g q) (sym nx) (k .0, subst (λ (i : ℕ). Runs (sizesOf z) (gd .home) (bookOf (newPages g) (committed b g q)) (history ++ (commitAt g (length history + 1) ∷ [])) i (commitLive g q (length history + 1))) (omega arith) (k .1))
 
   pub do-commit : (g : List Update) (q : List (List Update)) → queueOf s (w .staging) ≡ g ∷ q → sound s ≡ true → length g ≤ s .stored
-      → (a : Reply) (w′ : World) (st : Logging w a w′) → CommitStep s g q (w .log) (w .home) (w .frames) (w .staging) (st .result) (st .log′) (st .frames′) → Good z w′ (committed b g q)
+      → (a : Reply) (w′ : World) (st : Logging w a w′) → CommitStep s g q (w .log) (w .home) (w .frames) (w .staging) (st .result) (st .log′) (st .frames′) → Good z w′ (committed b g q) (history ++ (commitAt g (s .next) ∷ []))
   do-commit g q e so h a w′ st u =
       let r : Ready g q = ready g q e so in
       let l = r .lives in
-      let nx : s .next ≡ length (gd .history) + 1 = l .runs .next in
+      let nx : s .next ≡ length history + 1 = l .runs .next in
       let x : LogBlock = commitAt g (s .next) in
       let k : CommitKept g q (s .next) = commit-kept g q e r h in
-      let kf = keep-facts (sizesOf z) _ (gd .home) _ (gd .history) x (k .0) in
+      let kf = keep-facts (sizesOf z) _ (gd .home) _ history x (k .0) in
       let tk : s .ticket < s .next - s .stored = r .fact .ticket in
       let sm : 0 < length g = r .some in
       let cm : NumberFacts (z .slots) (s .next) (x .keepFrom) (x .ticket) = record { one = omega arith; most = r .below; keep-one = kf .0; keep-most = omega (arith, kf .1); near = omega (arith, kf .2); ticket-below = omega arith } in
@@ -249,15 +235,14 @@ module _ (z : Sizes) (range : Ranged z) (w : World) (b : Book) (gd : Good z w b)
       let tc : applyAll (groupStart s) (gd .home) g (dirtyOf s (w .frames)) ≡ applyAll (groupStart s) (pageAt (w .home)) g (dirtyOf s (w .frames)) =
       apply-all-cong (z .pages) (groupStart s) (gd .home) (pageAt (w .home)) g (dirtyOf s (w .frames)) (gd .homeIs) (fits-updates (z .pages) g (r .fits)) in
       rw (st .after) (record {
-        history = gd .history ++ (x ∷ []);
         home = gd .home;
         pages = newPages g;
-        kept = subst (λ (y : List Slot). Kept (sizesOf z) y (gd .home) (bookOf (newPages g) (committed b g q)) (gd .history ++ (x ∷ []))) (sym se) (k .0);
+        kept = subst (λ (y : List Slot). Kept (sizesOf z) y (gd .home) (bookOf (newPages g) (committed b g q)) (history ++ (x ∷ []))) (sym se) (k .0);
         logLong = ap length le ∙ stored-long z range (w .log) (gd .logLong) (s .next) x fk;
         homeLong = gd .homeLong;
         homeIs = gd .homeIs;
         pagesAre = λ p i. ap (redo (ofPage p g)) (gd .pagesAre p i);
-        live = λ y. lives-from z (record { state = st .result .state; log = st .log′; home = w .home; frames = st .frames′; staging = w .staging }) (committed b g q) (gd .history ++ (x ∷ [])) (gd .home) (newPages g) _ (commitLive g q (s .next)) (s .next + 1)
+        live = λ y. lives-from z (record { state = st .result .state; log = st .log′; home = w .home; frames = st .frames′; staging = w .staging }) (committed b g q) (history ++ (x ∷ [])) (gd .home) (newPages g) _ (commitLive g q (s .next)) (s .next + 1)
             (record { pageCount = l .pageCount; slotCount = l .slotCount; frameCount = l .frameCount; next = refl; ticket = refl; queue = refl; stored = refl; cleaning = cleaning-after g (s .cleaning); list = l .list })
             y (u .contentsAre) (λ p. u .dirtyAre p ∙ ap (lookUp p) (sym tc)) (l .listFits) (r .rest) (k .1);
       })
@@ -283,19 +268,19 @@ module _ (z : Sizes) (range : Ranged z) (w : World) (b : Book) (gd : Good z w b)
           (λ h. f x y q so h (st .promise .updates e x y q h))
           (λ h. c x y q so h (st .promise .commits e x y q h))
 
-  pub do-log : (a : Reply) (w′ : World) → Logging w a w′ → Good z w′ (entered logStep (accepts a) b)
-  do-log a w′ st = log-cases a w′ (Good z w′ (entered logStep (accepts a) b)) st
+  pub do-log : (a : Reply) (w′ : World) → Logging w a w′ → Good z w′ (entered logStep (accepts a) b) (history ++ storedIn z logStep (accepts a) w w′)
+  do-log a w′ st = log-cases a w′ (Good z w′ (entered logStep (accepts a) b) (history ++ storedIn z logStep (accepts a) w w′)) st
       (λ g q e so h u.
       let r : Ready g q = ready g q e so in
       let ct : s .stored ≡ b .count = r .lives .runs .alive .count in
-      rw (st .replyIs, u .answerIs) (subst (λ (y : List (List Update)). Good z w′ (steppedOver b y)) (sym (r .queue)) (simp (le-ltb (length g) (b .count + 1) (omega arith)) (do-update g q e so h a w′ st u))))
+      rw (st .replyIs, u .answerIs) (subst (λ (y : List (List Update)). Good z w′ (steppedOver b y) (history ++ newBlock z w w′)) (sym (r .queue)) (simp (le-ltb (length g) (b .count + 1) (omega arith)) (one-stored z range w w′ (counted b) history (updateAt g (s .next)) (r .lives .runs .next) (do-update g q e so h a w′ st u)))))
       (λ g q e so h u.
       let r : Ready g q = ready g q e so in
       let ct : s .stored ≡ b .count = r .lives .runs .alive .count in
-      rw (st .replyIs, u .answerIs) (subst (λ (y : List (List Update)). Good z w′ (steppedOver b y)) (sym (r .queue)) (simp (lt-ltb (length g) (b .count + 1) (omega arith)) (do-commit g q e so h a w′ st u))))
+      rw (st .replyIs, u .answerIs) (subst (λ (y : List (List Update)). Good z w′ (steppedOver b y) (history ++ newBlock z w w′)) (sym (r .queue)) (simp (lt-ltb (length g) (b .count + 1) (omega arith)) (one-stored z range w w′ (committed b g q) history (commitAt g (s .next)) (r .lives .runs .next) (do-commit g q e so h a w′ st u)))))
       (λ n. let k = st .promise .refused n in
       rw (st .replyIs, st .after, log-refused-false (st .result .answer) _ (st .promise .refusal) n, k .1, k .2)
-      (subst (λ (x : State). Good z (record { state = x; log = w .log; home = w .home; frames = w .frames; staging = w .staging }) b) (sym (k .0)) gd))
+      (subst (λ (x : State). Good z (record { state = x; log = w .log; home = w .home; frames = w .frames; staging = w .staging }) b (history ++ [])) (sym (k .0)) (none-stored gd)))
 
   pub answer-log : (a : Reply) (w′ : World) → Logging w a w′ → accepts a ≡ true → a ≡ cond (ltb (b .m) (stepped b .m)) (settles (stepped b .m)) done
   answer-log a w′ st ok = log-cases a w′ (a ≡ cond (ltb (b .m) (stepped b .m)) (settles (stepped b .m)) done) st

@@ -27,21 +27,23 @@ use Rattle.promises.proofs.History.Sizes as full
 use Rattle.promises.proofs.History.Sees.{by-eq}
 use Rattle.promises.proofs.History.WalkStart.{BeginsAt, commits, isCommit}
 use Rattle.promises.proofs.History.Invariant.{view, Keep, empty, from}
-use Rattle.promises.proofs.History.Ring.{Holds, noBlock}
+use Rattle.promises.proofs.History.Ring.{Holds}
 use Rattle.promises.proofs.History.Accepted.{Ups, Views, Formed, Right, after, step-updates, formed-append}
 use Rattle.promises.proofs.History.Recovered.{rest}
-use Rattle.promises.proofs.History.Whole.{Kept, Runs}
-use Rattle.promises.proofs.History.Reopened.{begins-le, last-keepFrom, newest-is, gathered-is, okay, fitting, reports, running}
+use Rattle.promises.proofs.History.HalfEnd.{begins-le}
+use Rattle.promises.proofs.History.Whole.{Kept, Runs, same-book}
+use Rattle.promises.proofs.History.Reopened.{last-keepFrom, newest-is, gathered-is, okay, fitting, reports, running}
 use Rattle.promises.specs.Book.{Book, gone}
 use Rattle.promises.specs.Events.{Sizes, World, Reply, refuses, settles, shows, accepts, openAnswered, readAnswered, Opening, Reading}
 use Rattle.promises.proofs.Soundness.{and-both}
 use Rattle.promises.proofs.Ranges.{Ranged}
+use Rattle.promises.proofs.OpenFindings.{open-finds}
 use Rattle.promises.proofs.Kept.{sizesOf, bookOf, Lives, Good, apply-all-cong, Matches, lives-from}
 use Rattle.promises.proofs.QuietCalls.{answer-reading}
 use Rattle.promises.proofs.Slots.{size-slots}
 
 -- ---- a walk without a refusal
-ok-parts : (F : ℕ) (home : ℕ → List ℕ) (k : Kind) (t : ℕ) (v : Walk) → blockStands F home k t v ≡ true → (inOrder k t v ≡ true) × (framed F home k v ≡ true)
+pub ok-parts : (F : ℕ) (home : ℕ → List ℕ) (k : Kind) (t : ℕ) (v : Walk) → blockStands F home k t v ≡ true → (inOrder k t v ≡ true) × (framed F home k v ≡ true)
 unfolding blockStands inOrder framed
 ok-parts F home (update i u) t v e = (e, refl)
 ok-parts F home (commit n) t v e = and-both _ (leb (length (applyAll (v .start) home (v .group) (v .dirtyPages))) F) e
@@ -56,13 +58,13 @@ walk-ok N F next home j (b ∷ bs) v e =
     rw (d .0, d .1) (walk-ok N F next home (suc j) bs (walkBlock home j (b .kind) v) (c .1))
 
 -- ---- the walk reads home only at pages that are there
-framed-cong : (P F : ℕ) (home home′ : ℕ → List ℕ) (k : Kind) (v : Walk) → ((p : ℕ) → p < P → home p ≡ home′ p) → Ups P (v .group) → framed F home k v ≡ framed F home′ k v
+pub framed-cong : (P F : ℕ) (home home′ : ℕ → List ℕ) (k : Kind) (v : Walk) → ((p : ℕ) → p < P → home p ≡ home′ p) → Ups P (v .group) → framed F home k v ≡ framed F home′ k v
 unfolding framed
 framed-cong P F home home′ (update i u) v h l = refl
 framed-cong P F home home′ (commit n) v h l = ap (λ (x : List DirtyPage). leb (length x) F) (apply-all-cong P (v .start) home home′ (v .group) (v .dirtyPages) h l)
 framed-cong P F home home′ (clean q) v h l = refl
 
-block-cong : (P j : ℕ) (home home′ : ℕ → List ℕ) (k : Kind) (v : Walk) → ((p : ℕ) → p < P → home p ≡ home′ p) → Ups P (v .group) → walkBlock home j k v ≡ walkBlock home′ j k v
+pub block-cong : (P j : ℕ) (home home′ : ℕ → List ℕ) (k : Kind) (v : Walk) → ((p : ℕ) → p < P → home p ≡ home′ p) → Ups P (v .group) → walkBlock home j k v ≡ walkBlock home′ j k v
 unfolding walkBlock
 block-cong P j home home′ (update i u) v h l = refl
 block-cong P j home home′ (commit n) v h l = ap (λ (x : List DirtyPage). record { group = []; start = 0; ticket = v .ticket + 1; dirtyPages = x }) (apply-all-cong P (v .start) home home′ (v .group) (v .dirtyPages) h l)
@@ -79,7 +81,7 @@ walk-cong N F P next j m home home′ (b ∷ bs) v ts h f l =
     let ih′ : walkFrom N F home next (suc j) bs (walkBlock home j (b .kind) v) ≡ walkFrom N F home′ next (suc j) bs (walkBlock home′ j (b .kind) v) = ih ∙ ap (walkFrom N F home′ next (suc j) bs) d in
     rw (e, ih′) refl
 
-module _ (z : Sizes) (range : Ranged z) (w : World) (b : Book) (gd : Good z w b) where
+module _ (z : Sizes) (range : Ranged z) (w : World) (b : Book) {history : List LogBlock} (gd : Good z w b history) where
   abbrev slots₀ : List Slot
   slots₀ = slotsOf (z .slots) (z .pages) (w .log)
 
@@ -87,29 +89,29 @@ module _ (z : Sizes) (range : Ranged z) (w : World) (b : Book) (gd : Good z w b)
   ledger₀ = bookOf (gd .pages) b
 
   abbrev kf : ℕ
-  kf = lastKeep (gd .history)
+  kf = lastKeep history
 
   abbrev bs : List LogBlock
-  bs = drop (kf - 1) (gd .history)
+  bs = drop (kf - 1) history
 
   abbrev vw : Walk
   vw = walk (gd .home) kf bs (startWith (believed bs))
 
   abbrev nx : ℕ
-  nx = length (gd .history) + 1
+  nx = length history + 1
 
   big : 0 < z .slots
   big = omega arith
 
-  newest₀ : newest slots₀ ≡ length (gd .history)
-  newest₀ = newest-is (sizesOf z) slots₀ (gd .home) ledger₀ (gd .history) big (gd .kept)
+  newest₀ : newest slots₀ ≡ length history
+  newest₀ = newest-is (sizesOf z) slots₀ (gd .home) ledger₀ history big (gd .kept)
 
   -- the newest block's keep-from
-  keep₀ : BeginsAt (gd .history) (b .m) kf → keepOf (z .slots) slots₀ ≡ kf
+  keep₀ : BeginsAt history (b .m) kf → keepOf (z .slots) slots₀ ≡ kf
   keep₀ g =
       let l = begins-le g in
-      let r = gd .kept .holds .recent (length (gd .history)) (omega (arith, l)) (omega arith) (omega arith) in
-      rw (newest₀, r) (last-keepFrom (gd .history) (omega (arith, l)))
+      let r = gd .kept .holds .recent (length history) (omega (arith, l, gd .kept .based)) (omega arith) (omega arith) in
+      rw (newest₀, r) (last-keepFrom history (omega (arith, l)))
 
   walk₀ : walkFrom (z .slots) (z .frames) (pageAt (w .home)) nx (keepOf (z .slots) slots₀) bs (startWith (believed bs)) ≡ walkFrom (z .slots) (z .frames) (gd .home) nx kf bs (startWith (believed bs))
   unfolding walkFrom
@@ -125,45 +127,29 @@ module _ (z : Sizes) (range : Ranged z) (w : World) (b : Book) (gd : Good z w b)
           drop-none zero = refl
           drop-none (suc n) = refl
 
-      go : Keep (gd .history) (b .m) → walkFrom (z .slots) (z .frames) (pageAt (w .home)) nx (keepOf (z .slots) slots₀) bs (startWith (believed bs)) ≡ walkFrom (z .slots) (z .frames) (gd .home) nx kf bs (startWith (believed bs))
-      go (empty e m) = none bs (keepOf (z .slots) slots₀) kf (no-drop (kf - 1) (gd .history) e)
+      go : Keep history (b .m) → walkFrom (z .slots) (z .frames) (pageAt (w .home)) nx (keepOf (z .slots) slots₀) bs (startWith (believed bs)) ≡ walkFrom (z .slots) (z .frames) (gd .home) nx kf bs (startWith (believed bs))
+      go (empty e m) = none bs (keepOf (z .slots) slots₀) kf (no-drop (kf - 1) history e)
       go (from g) = ap (λ (j : ℕ). walkFrom (z .slots) (z .frames) (pageAt (w .home)) nx j bs (startWith (believed bs))) (keep₀ g)
           ∙ walk-cong (z .slots) (z .frames) (z .pages) nx kf (0 + commits (g .pre)) (pageAt (w .home)) (gd .home) bs (startWith (believed bs)) (view (g .pre)) (λ p h. sym (gd .homeIs p h))
-          (subst (Formed (z .frames) (z .pages) kf (0 + commits (g .pre)) (view (g .pre))) (sym (rest (gd .history) (b .m) kf g))
+          (subst (Formed (z .frames) (z .pages) kf (0 + commits (g .pre)) (view (g .pre))) (sym (rest history (b .m) kf g))
           (subst (λ (n : ℕ). Formed (z .frames) (z .pages) n (0 + commits (g .pre)) (view (g .pre)) (g .block ∷ g .post)) (g .place)
           (formed-append (z .frames) (z .pages) 1 0 (λ p. noView) (g .pre) (g .block ∷ g .post) (subst (λ (x : List LogBlock). Formed (z .frames) (z .pages) 1 0 (λ p. noView) x) (g .split) (gd .kept .formed))))) tt
 
   ends₀ : ending (z .slots) nx vw ≡ stands nx vw
-  ends₀ = simp (le-leb _ _ (fitting (sizesOf z) slots₀ (gd .home) ledger₀ (gd .history) big (gd .kept)))
+  ends₀ = simp (le-leb _ _ (fitting (sizesOf z) slots₀ (gd .home) ledger₀ history big (gd .kept)))
 
   finding₀ : finding (z .slots) (z .pages) (z .frames) (w .log) (w .home) ≡ stands nx vw
   unfolding finding
   finding₀ =
-      ap (walkGathered (z .slots) (z .frames) (pageAt (w .home)) slots₀) (gathered-is (sizesOf z) slots₀ (gd .home) ledger₀ (gd .history) big (gd .kept))
+      ap (walkGathered (z .slots) (z .frames) (pageAt (w .home)) slots₀) (gathered-is (sizesOf z) slots₀ (gd .home) ledger₀ history big (gd .kept))
       ∙ ap (λ (n : ℕ). walkFrom (z .slots) (z .frames) (pageAt (w .home)) (n + 1) (keepOf (z .slots) slots₀) bs (startWith (believed bs))) newest₀
       ∙ walk₀
-      ∙ walk-ok (z .slots) (z .frames) nx (gd .home) kf bs (startWith (believed bs)) (okay (sizesOf z) slots₀ (gd .home) ledger₀ (gd .history) big (gd .kept))
+      ∙ walk-ok (z .slots) (z .frames) nx (gd .home) kf bs (startWith (believed bs)) (okay (sizesOf z) slots₀ (gd .home) ledger₀ history big (gd .kept))
       ∙ ends₀
 
   -- OPEN FINDS THE HISTORY
   found : (frames staging : ℕ) → frames ≡ z .frames * 1024 → staging ≡ z .frames * 472 → openFinding (w .log) (w .home) frames staging ≡ stands nx vw
-  unfolding openFinding
-  found frames staging ef es =
-      let l1 : length (w .log) / 512 ≡ z .slots = omega (arith, gd .logLong) in
-      let l2 : length (w .home) / 1024 ≡ z .pages = omega (arith, gd .homeLong) in
-      let l3 : frames / 1024 ≡ z .frames = omega arith in
-      rw (l1, l2, l3) (simp (
-        eq-eqb (z .slots * 512) (length (w .log)) (sym (gd .logLong)),
-        eq-eqb (z .pages * 1024) (length (w .home)) (sym (gd .homeLong)),
-        eq-eqb (z .frames * 1024) frames (sym ef),
-        eq-eqb staging (z .frames * 472) es,
-        le-leb 8 (z .slots) (range .slots .0),
-        le-leb (z .slots) 1024 (range .slots .1),
-        le-leb 1 (z .pages) (range .pages .0),
-        le-leb (z .pages) 4096 (range .pages .1),
-        le-leb 1 (z .frames) (range .frames .0),
-        le-leb (z .frames) 32 (range .frames .1),
-      ) finding₀)
+  found frames staging ef es = open-finds z range (w .log) (w .home) frames staging (gd .logLong) (gd .homeLong) ef es ∙ finding₀
 
   module _ (frames staging : List ℕ) (ef : length frames ≡ z .frames * 1024) (es : length staging ≡ z .frames * 472) (a : Reply) (w′ : World) (st : Opening w frames staging a w′) where
     opened : OpenStands nx vw (w .log) (w .home) frames (st .result) (st .frames′)
@@ -171,24 +157,23 @@ module _ (z : Sizes) (range : Ranged z) (w : World) (b : Book) (gd : Good z w b)
 
     -- it is accepted and reports m
     pub opens-right : a ≡ settles (b .m)
-    opens-right = st .replyIs ∙ ap openAnswered (opened .answerIs) ∙ ap settles (reports (sizesOf z) slots₀ (gd .home) ledger₀ (gd .history) big (gd .kept))
+    opens-right = st .replyIs ∙ ap openAnswered (opened .answerIs) ∙ ap settles (reports (sizesOf z) slots₀ (gd .home) ledger₀ history big (gd .kept))
 
-    pub do-open : Good z w′ (gone b)
+    pub do-open : Good z w′ (gone b) history
     do-open =
         let o = opened in
         let k = gd .kept in
         rw (st .after) (record {
-          history = gd .history;
           home = gd .home;
           pages = gd .pages;
-          kept = record { holds = k .holds; formed = k .formed; total = k .total; roomy = k .roomy; disk = k .disk };
+          kept = same-book refl refl k;
           logLong = gd .logLong;
           homeLong = gd .homeLong;
           homeIs = gd .homeIs;
           pagesAre = gd .pagesAre;
-          live = λ y. lives-from z (record { state = st .result .state; log = w .log; home = w .home; frames = st .frames′; staging = staging }) (gone b) (gd .history) (gd .home) (gd .pages) _ (full.opened vw) nx
+          live = λ y. lives-from z (record { state = st .result .state; log = w .log; home = w .home; frames = st .frames′; staging = staging }) (gone b) history (gd .home) (gd .pages) _ (full.opened vw) nx
               (record { pageCount = omega (arith, gd .homeLong); slotCount = omega (arith, gd .logLong); frameCount = omega arith; next = refl; ticket = refl; queue = refl; stored = refl; cleaning = refl; list = refl })
-              y (o .contentsAre staging) (o .dirtyAre) tt tt (running (sizesOf z) slots₀ (gd .home) ledger₀ (gd .history) big k);
+              y (o .contentsAre staging) (o .dirtyAre) tt tt (running (sizesOf z) slots₀ (gd .home) ledger₀ history big k);
         })
 
     -- after it every page is shown

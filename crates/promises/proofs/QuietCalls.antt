@@ -16,6 +16,7 @@ use Rattle.promises.specs.declared.Standing.the-variants.{Yes, No}
 use Rattle.promises.specs.Areas.{pageAt}
 use Rattle.promises.specs.Updates.{Update}
 use Rattle.promises.specs.DirtyPages.{lookUp, shown}
+use Rattle.promises.specs.Blocks.{LogBlock}
 use Rattle.promises.specs.Contents.{Contents, contentsOf, dirtyOf, queueOf, total}
 use Rattle.promises.specs.Sound.{sound}
 use Rattle.block.specs.Legal.{legalPlace}
@@ -30,7 +31,7 @@ use Rattle.promises.proofs.History.Machine.{Live}
 use Rattle.promises.proofs.History.Sizes.{enqueue}
 use Rattle.promises.proofs.History.Sees.{by-eq}
 use Rattle.promises.proofs.History.Recovered.{alive-end, shown-right}
-use Rattle.promises.proofs.History.Whole.{Runs, places-append}
+use Rattle.promises.proofs.History.Whole.{Runs, same-book, places-append}
 use Rattle.promises.specs.Book.{Book, begun, described, ended, ticketGiven}
 use Rattle.promises.specs.Events.{Sizes, World, withState, Call, begin, describe, ending, reading, settling, Reply, refuses, done, gives, shows, says, accepts, endAnswered, standingAnswered, Beginning, Describing, Ending, Reading, Settling}
 use Rattle.promises.specs.Claim.{entered, Right}
@@ -39,19 +40,18 @@ use Rattle.promises.proofs.SoundFacts.{and-left, and-right, Facts, fact
 use Rattle.promises.proofs.Kept.{sizesOf, bookOf, liveOf, Fit, Fits, FitsAll, Lives, Good, fits-legal, fits-updates, fits-more, all-more, Matches, lives-from}
 
 -- ---- Begin
-module _ (z : Sizes) (w : World) (b : Book) (g : Good z w b) where
+module _ (z : Sizes) (w : World) (b : Book) {history : List LogBlock} (g : Good z w b history) where
   abbrev s : State
   s = w .state
 
-  pub do-begin : (u : ℕ) (a : Reply) (w′ : World) → Beginning w u a w′ → Good z w′ (entered (begin u) (accepts a) b)
+  pub do-begin : (u : ℕ) (a : Reply) (w′ : World) → Beginning w u a w′ → Good z w′ (entered (begin u) (accepts a) b) history
   unfolding beginRefusal
   do-begin u a w′ st = rw (st .replyIs, st .after) (by-eq (beginRefusal s u) 0
       (λ e.
       let so : sound s ≡ true = pick-zero (sound s) _ 2 (omega arith) e .0 in
-      let l : Lives z w b (g .history) (g .home) (g .pages) = g .live so in
+      let l : Lives z w b history (g .home) (g .pages) = g .live so in
       let lv = st .promise .leaves e (w .staging) in
       rw (st .promise .answerIs e) (record {
-        history = g .history;
         home = g .home;
         pages = g .pages;
         kept = g .kept;
@@ -59,11 +59,11 @@ module _ (z : Sizes) (w : World) (b : Book) (g : Good z w b) where
         homeLong = g .homeLong;
         homeIs = g .homeIs;
         pagesAre = g .pagesAre;
-        live = λ x. lives-from z (withState w (st .result .state)) (begun b) (g .history) (g .home) (g .pages) _ (liveOf s (w .frames) (w .staging)) (s .next)
+        live = λ x. lives-from z (withState w (st .result .state)) (begun b) history (g .home) (g .pages) _ (liveOf s (w .frames) (w .staging)) (s .next)
             (record { pageCount = l .pageCount; slotCount = l .slotCount; frameCount = l .frameCount; next = refl; ticket = refl; queue = refl; stored = refl; cleaning = refl; list = refl })
             x (lv .contentsAre) (lv .dirtyAre (w .frames)) tt (l .queueFits) (l .runs);
       }))
-      (λ n. rw (refused-false (st .result .answer) _ (st .promise .refusal) n) (subst (λ (x : State). Good z (withState w x) b) (sym (st .promise .refused n)) g)))
+      (λ n. rw (refused-false (st .result .answer) _ (st .promise .refusal) n) (subst (λ (x : State). Good z (withState w x) b history) (sym (st .promise .refused n)) g)))
 
   -- ---- Describe
   fit-of : (P page offset : ℕ) (bytes : List ℕ) → legalPlace P page offset (length bytes) ≡ true → Fit P (record { page = page; offset = offset; bytes = bytes })
@@ -73,16 +73,15 @@ module _ (z : Sizes) (w : World) (b : Book) (g : Good z w b) where
       let d = and-left (leb n 472) c in
       (ltb-true _ _ (and-left (leb 1 n) d), leb-true _ _ (and-right (ltb page P) d), leb-true _ _ (and-right (ltb page P && leb 1 n) c), leb-true _ _ (and-right (ltb page P && leb 1 n && leb n 472) e))
 
-  pub do-describe : (u : Update) (a : Reply) (w′ : World) → Describing w u a w′ → Good z w′ (entered (describe u) (accepts a) b)
+  pub do-describe : (u : Update) (a : Reply) (w′ : World) → Describing w u a w′ → Good z w′ (entered (describe u) (accepts a) b) history
   do-describe u a w′ st = rw (st .replyIs, st .after) (by-eq (describeRefusal s (length (w .staging)) (u .page) (u .offset) (length (u .bytes))) 0
       (λ e.
       let r = describe-passed s (length (w .staging)) (u .page) (u .offset) (length (u .bytes)) e in
-      let l : Lives z w b (g .history) (g .home) (g .pages) = g .live (r .0) in
+      let l : Lives z w b history (g .home) (g .pages) = g .live (r .0) in
       let ft : Fit (z .pages) u = subst (λ (p : ℕ). Fit p u) (l .pageCount) (fit-of (s .pages) (u .page) (u .offset) (u .bytes) (r .3)) in
       let step = st .promise .accepted e in
       let lv = step .leaves in
       rw (step .answerIs) (record {
-        history = g .history;
         home = g .home;
         pages = g .pages;
         kept = g .kept;
@@ -90,16 +89,16 @@ module _ (z : Sizes) (w : World) (b : Book) (g : Good z w b) where
         homeLong = g .homeLong;
         homeIs = g .homeIs;
         pagesAre = g .pagesAre;
-        live = λ x. lives-from z (record { state = st .result .state; log = w .log; home = w .home; frames = w .frames; staging = st .staging′ }) (described u b) (g .history) (g .home) (g .pages) _ (liveOf s (w .frames) (w .staging)) (s .next)
+        live = λ x. lives-from z (record { state = st .result .state; log = w .log; home = w .home; frames = w .frames; staging = st .staging′ }) (described u b) history (g .home) (g .pages) _ (liveOf s (w .frames) (w .staging)) (s .next)
             (record { pageCount = l .pageCount; slotCount = l .slotCount; frameCount = l .frameCount; next = refl; ticket = refl; queue = refl; stored = refl; cleaning = refl; list = ap (λ (x : List Update). x ++ (u ∷ [])) (l .list) })
             x (lv .contentsAre) (lv .dirtyAre (w .frames)) (fits-more (z .pages) (b .list) u (l .listFits) ft) (l .queueFits) (l .runs);
       }))
       (λ n. let k = st .promise .refused n in
       rw (refused-false (st .result .answer) _ (st .promise .refusal) n, k .1)
-      (subst (λ (x : State). Good z (withState w x) b) (sym (k .0)) g)))
+      (subst (λ (x : State). Good z (withState w x) b history) (sym (k .0)) g)))
 
   -- ---- End
-  pub do-ending : (a : Reply) (w′ : World) → Ending w a w′ → Good z w′ (entered ending (accepts a) b)
+  pub do-ending : (a : Reply) (w′ : World) → Ending w a w′ → Good z w′ (entered ending (accepts a) b) history
   unfolding endRefusal
   do-ending a w′ st = rw (st .replyIs, st .after) (by-eq (endRefusal s) 0
       (λ e.
@@ -107,24 +106,23 @@ module _ (z : Sizes) (w : World) (b : Book) (g : Good z w b) where
       let c4 = pick-other (eqb (s .reserved) 0) _ 4 (omega arith) (c2 .1) in
       let c10 = pick-other (eqb (s .described) 0) _ 10 (omega arith) (c4 .1) in
       let nz : s .described ≡ 0 → ⊥ = eqb-false _ _ (c10 .0) in
-      let l : Lives z w b (g .history) (g .home) (g .pages) = g .live (c2 .0) in
+      let l : Lives z w b history (g .home) (g .pages) = g .live (c2 .0) in
       let f : Facts s (w .frames) = facts s (w .frames) (c2 .0) in
       let ln : length (b .list) ≡ s .described = ap length (sym (l .list)) ∙ length-list s (w .staging) (f .staged) in
       let lv = st .promise .leaves e (w .staging) in
       let k : Live = liveOf s (w .frames) (w .staging) in
-      let al = alive-end (g .history) (g .home) k (bookOf (g .pages) b) (b .list) (omega arith, fits-legal (z .pages) (b .list) (l .listFits)) (l .runs .alive) in
-      let r : Runs (sizesOf z) (g .home) (bookOf (g .pages) (ended b)) (g .history) (s .next) (enqueue k (b .list)) =
+      let al = alive-end history (g .home) k (bookOf (g .pages) b) (b .list) (omega arith, fits-legal (z .pages) (b .list) (l .listFits)) (l .runs .alive) in
+      let r : Runs (sizesOf z) (g .home) (bookOf (g .pages) (ended b)) history (s .next) (enqueue k (b .list)) =
       record { next = l .runs .next; alive = al; pages = l .runs .pages; places = places-append (z .pages) (queueOf s (w .staging)) (b .list) (l .runs .places) (fits-updates (z .pages) (b .list) (l .listFits)) } in
       rw (st .promise .answerIs e) (record {
-        history = g .history;
         home = g .home;
         pages = g .pages;
-        kept = record { holds = g .kept .holds; formed = g .kept .formed; total = g .kept .total; roomy = g .kept .roomy; disk = g .kept .disk };
+        kept = same-book refl refl (g .kept);
         logLong = g .logLong;
         homeLong = g .homeLong;
         homeIs = g .homeIs;
         pagesAre = g .pagesAre;
-        live = λ x. lives-from z (withState w (st .result .state)) (ended b) (g .history) (g .home) (g .pages) _ (enqueue k (b .list)) (s .next)
+        live = λ x. lives-from z (withState w (st .result .state)) (ended b) history (g .home) (g .pages) _ (enqueue k (b .list)) (s .next)
             (record {
               pageCount = l .pageCount;
               slotCount = l .slotCount;
@@ -138,14 +136,14 @@ module _ (z : Sizes) (w : World) (b : Book) (g : Good z w b) where
             })
             x (lv .contentsAre) (lv .dirtyAre (w .frames)) tt (all-more (z .pages) (b .queue) (b .list) (l .queueFits) (l .listFits) (omega arith)) r;
       }))
-      (λ n. rw (end-refused-false (st .result .answer) _ (st .promise .refusal) n) (subst (λ (x : State). Good z (withState w x) b) (sym (st .promise .refused n)) g)))
+      (λ n. rw (end-refused-false (st .result .answer) _ (st .promise .refusal) n) (subst (λ (x : State). Good z (withState w x) b history) (sym (st .promise .refused n)) g)))
 
   pub answer-ending : (a : Reply) (w′ : World) → Ending w a w′ → accepts a ≡ true → a ≡ gives (ticketGiven b)
   unfolding endRefusal
   answer-ending a w′ st ok = by-eq (endRefusal s) 0
       (λ e.
       let c2 = pick-zero (sound s) _ 2 (omega arith) e in
-      let l : Lives z w b (g .history) (g .home) (g .pages) = g .live (c2 .0) in
+      let l : Lives z w b history (g .home) (g .pages) = g .live (c2 .0) in
       let f : Facts s (w .frames) = facts s (w .frames) (c2 .0) in
       let q : length (b .queue) ≡ s .queued = ap length (sym (l .runs .alive .queue)) ∙ length-queue s (w .staging) (f .queued) in
       let t : s .ticket ≡ b .m = l .runs .alive .ticket in
@@ -162,7 +160,7 @@ module _ (z : Sizes) (w : World) (b : Book) (g : Good z w b) where
   answer-settling t a w′ st ok = by-eq (settledRefusal s t) 0
       (λ e.
       let c2 = pick-zero (sound s) _ 2 (omega arith) e in
-      let l : Lives z w b (g .history) (g .home) (g .pages) = g .live (c2 .0) in
+      let l : Lives z w b history (g .home) (g .pages) = g .live (c2 .0) in
       st .replyIs ∙ ap standingAnswered (st .promise .answerIs e) ∙ said (leb t (s .ticket)) ∙ ap (λ (n : ℕ). says (leb t n)) (l .runs .alive .ticket))
       (λ n. no-accept (sym (standing-refused-false (st .result) _ (st .promise .refusal) n) ∙ ap accepts (sym (st .replyIs)) ∙ ok))
 
@@ -174,9 +172,9 @@ module _ (z : Sizes) (w : World) (b : Book) (g : Good z w b) where
       let c2 = pick-zero (sound s) _ 2 (omega arith) e in
       let c1 = pick-zero (eqb (length (now (st .home))) (s .pages * 1024) && eqb (length (now (st .frames))) (s .frames * 1024)) _ 1 (omega arith) (c2 .1) in
       let c3 = pick-zero (ltb p (s .pages)) _ 3 (omega arith) (c1 .1) in
-      let l : Lives z w b (g .history) (g .home) (g .pages) = g .live (c2 .0) in
+      let l : Lives z w b history (g .home) (g .pages) = g .live (c2 .0) in
       let h : p < z .pages = rw (← (l .pageCount)) (ltb-true _ _ (c3 .0)) in
-      let r = shown-right (g .history) (g .home) (liveOf s (w .frames) (w .staging)) (bookOf (g .pages) b) (g .kept .disk) (l .runs .alive) p in
+      let r = shown-right history (g .home) (liveOf s (w .frames) (w .staging)) (bookOf (g .pages) b) (g .kept .disk) (l .runs .alive) p in
       let bytes : now (st .result) ≡ b .pages p = st .promise .bytesAre e ∙ rw (st .homeIs, st .framesAre, ← (g .homeIs p h)) (r ∙ g .pagesAre p h) in
       st .replyIs ∙ read-accepted-reply (st .number) (now (st .result)) (st .promise .refusal ∙ e) ∙ ap shows bytes)
       (λ n. no-accept (sym (ap accepts (read-refused-reply (st .number) (now (st .result)) (λ q. n (sym (st .promise .refusal) ∙ q)))) ∙ ap accepts (sym (st .replyIs)) ∙ ok))

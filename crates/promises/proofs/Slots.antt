@@ -123,36 +123,36 @@ slot-is : (N P : ℕ) (log : List ℕ) (i : ℕ) (x : List ℕ) → slotBytes lo
 unfolding slotAt
 slot-is N P log i x e = ap (λ (y : List ℕ). slotIn (judged N P i y) y) e
 
+-- BYTES THAT ARE PUT INTO A SLOT set it to what they are judged as, and no other
+pub slots-with : (N P i : ℕ) (log bytes : List ℕ) → i < N → length log ≡ N * 512 → length bytes ≡ 512
+    → slotsOf N P (withSlot log i bytes) ≡ set (slotsOf N P log) i (slotIn (judged N P i bytes) bytes)
+slots-with N P i log bytes inside e long =
+    ext-getD unused (slotsOf N P log′) (set (slotsOf N P log) i x) (size-slots N P log′ ∙ sym (size-slots N P log) ∙ sym (length-set (slotsOf N P log) i x))
+    (λ j h. let h′ : j < N = omega (arith, size-slots N P log′) in get-slot N P log′ j h′ ∙ at-slot j h′)
+  where
+    x : Slot
+    x = slotIn (judged N P i bytes) bytes
+
+    room : i * 512 + 512 ≤ length log
+    room = omega (arith, e)
+
+    log′ : List ℕ
+    log′ = withSlot log i bytes
+
+    other : (j : ℕ) → (j ≡ i → ⊥) → slotAt N P log′ j ≡ slotAt N P log j
+    other j n = slot-is N P log′ j (slotBytes log j) (area-other 512 log i j bytes room long (λ e. n (sym e))) ∙ sym (slot-is N P log j (slotBytes log j) refl)
+
+    at-slot : (j : ℕ) → j < N → slotAt N P log′ j ≡ getD (set (slotsOf N P log) i x) j unused
+    at-slot j h = by-eq j i
+        (λ q. rw q (slot-is N P log′ i bytes (part-same log (i * 512) 512 bytes room long) ∙ sym (getD-set-same (slotsOf N P log) i x unused (omega (arith, size-slots N P log)))))
+        (λ n. other j n ∙ sym (get-slot N P log j h) ∙ sym (getD-set-other (slotsOf N P log) i j x unused n))
+
 -- A STORE SETS ITS SLOT
 pub slots-store : (N P s : ℕ) (log : List ℕ) (b : LogBlock) → 0 < N → P ≤ 65536 → length log ≡ N * 512 → NumberFacts N s (b .keepFrom) (b .ticket) → KindFits P (b .ticket) (b .kind)
     → slotsOf N P (withSlot log (s % N) (written s b)) ≡ store N s b (slotsOf N P log)
 unfolding store
 slots-store N P s log b big p e c f =
-    ext-getD unused (slotsOf N P log′) (set (slotsOf N P log) i (valid s b)) (size-slots N P log′ ∙ sym (size-slots N P log) ∙ sym (length-set (slotsOf N P log) i (valid s b)))
-    (λ j h. let h′ : j < N = omega (arith, size-slots N P log′) in get-slot N P log′ j h′ ∙ at-slot j h′)
-  where
-    i : ℕ
-    i = s % N
-
-    room : s % N * 512 + 512 ≤ length log
-    room = let l : s % N < N = mod-lt s big in omega (arith, e)
-
-    long : length (written s b) ≡ 512
-    long = length-written P s b f
-
-    log′ : List ℕ
-    log′ = withSlot log (s % N) (written s b)
-
-    same : slotAt N P log′ (s % N) ≡ valid s b
-    same = slot-is N P log′ (s % N) (written s b) (part-same log (s % N * 512) 512 (written s b) room long) ∙ written-back N P s b p c f
-
-    other : (j : ℕ) → (j ≡ s % N → ⊥) → slotAt N P log′ j ≡ slotAt N P log j
-    other j n = slot-is N P log′ j (slotBytes log j) (area-other 512 log (s % N) j (written s b) room long (λ e. n (sym e))) ∙ sym (slot-is N P log j (slotBytes log j) refl)
-
-    at-slot : (j : ℕ) → j < N → slotAt N P log′ j ≡ getD (set (slotsOf N P log) i (valid s b)) j unused
-    at-slot j h = by-eq j i
-        (λ q. rw q (same ∙ sym (getD-set-same (slotsOf N P log) i (valid s b) unused (omega (arith, size-slots N P log, mod-lt s big)))))
-        (λ n. other j n ∙ sym (get-slot N P log j h) ∙ sym (getD-set-other (slotsOf N P log) i j (valid s b) unused n))
+    slots-with N P (s % N) log (written s b) (mod-lt s big) e (length-written P s b f) ∙ ap (set (slotsOf N P log) (s % N)) (written-back N P s b p c f)
 
 -- ---- a log of zeros
 drop-zeros : (n m : ℕ) → drop {A = ℕ} n (replicate m 0) ≡ replicate (m - n) 0

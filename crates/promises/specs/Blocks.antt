@@ -25,6 +25,10 @@ pub record LogBlock : Type 0 where
   pub keepFrom : ℕ
   pub ticket : ℕ
 
+-- what a list of blocks is read as past its end
+abbrev pub noBlock : LogBlock
+noBlock = record { kind = clean 0; keepFrom = 0; ticket = 0 }
+
 -- ---- writing
 
 -- the fields of a block with this sequence

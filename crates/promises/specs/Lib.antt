@@ -21,5 +21,7 @@ pub mod Settled
 pub mod Book
 pub mod Events
 pub mod Claim
+pub mod Stored
+pub mod SilentLoss
 pub mod Corollaries
 pub mod Alike

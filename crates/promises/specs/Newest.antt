@@ -1,4 +1,5 @@
--- How Open finds the log's blocks: the newest sequence M, its keep-from k, and the blocks k to M, or the lowest missing one.
+-- How Open finds the log's blocks: the newest sequence M, its keep-from k, and the blocks k to M, or the lowest missing one, or M + 1
+-- where the slot after the newest is damaged.
 -- Assumes nothing.
 use Prim.Native.Nat.{ℕ, zero, suc, _+_, _-_, max}
 use mathlib.Core.Bool.{Bool, true, false, cond, _&&_}
@@ -56,9 +57,24 @@ unfoldable pub allUnused : List Slot → Bool
 allUnused [] = true
 allUnused (slot ∷ slots) = isUnused slot && allUnused slots
 
--- all slots unused: no block; no valid slot but a damaged one: missing at place 0; otherwise the blocks k to M
+abbrev pub isDamaged : Slot → Bool
+isDamaged unused = false
+isDamaged damaged = true
+isDamaged (valid sequence block) = false
+
+-- the slot after the newest, of so many, is damaged
+abbrev pub endDamaged : ℕ → List Slot → Bool
+endDamaged count slots = isDamaged (getD slots (slotOf count (newest slots + 1)) unused)
+
+-- a damaged end is no end: where k to M are all there, M + 1 is missing if the slot after M is damaged
+abbrev pub endTested : ℕ → List Slot → Gathered → Gathered
+endTested count slots (missing sequence) = missing sequence
+endTested count slots (blocks list) = cond (endDamaged count slots) (missing (newest slots + 1)) (blocks list)
+
+-- all slots unused: no block; no valid slot but a damaged one: missing at place 0; otherwise the blocks k to M, and an end that is not
+-- damaged
 unfoldable pub gathered : ℕ → List Slot → Gathered
 gathered count slots =
     cond (allUnused slots) (blocks [])
     (cond (eqb (newest slots) 0) (missing 0)
-    (gather count slots (newest slots + 1 - keepOf count slots) (keepOf count slots)))
+    (endTested count slots (gather count slots (newest slots + 1 - keepOf count slots) (keepOf count slots))))

@@ -19,9 +19,9 @@ use Rattle.block.specs.declared.Judged.{Judged}
 use Rattle.block.specs.declared.Judged.the-variants.{Unused, Damaged, Valid}
 use Rattle.promises.specs.Areas.{slotBytes, slotsIn}
 use Rattle.promises.specs.Blocks.{Slot, slotIn, slotAt, slotsFrom}
-use Rattle.promises.specs.Newest.{sequenceIn, isUnused, newest, allUnused}
+use Rattle.promises.specs.Newest.{sequenceIn, isUnused, isDamaged, newest, allUnused}
 use Rattle.recovery.specs.Log.{bytesOf, headerOf}
-use Rattle.recovery.specs.Slots.{sequenceOf, isEmpty, standing}
+use Rattle.recovery.specs.Slots.{sequenceOf, isEmpty, judgedDamaged, standing}
 
 -- ---- the slot after a slot
 
@@ -80,6 +80,20 @@ same-empty : (j : Judged) (bytes : List ℕ) → isUnused (slotIn j bytes) ≡ i
 same-empty Unused bytes = refl
 same-empty Damaged bytes = refl
 same-empty (Valid b) bytes = refl
+
+same-damaged : (j : Judged) (bytes : List ℕ) → isDamaged (slotIn j bytes) ≡ judgedDamaged j
+same-damaged Unused bytes = refl
+same-damaged Damaged bytes = refl
+same-damaged (Valid b) bytes = refl
+
+pub bytes-damaged : (N P i : ℕ) (bytes : List ℕ) (j : Judged) (r : Bool) → j ≡ judged N P i bytes → r ≡ judgedDamaged j
+    → r ≡ isDamaged (slotIn (judged N P i bytes) bytes)
+bytes-damaged N P i bytes j r e f = f ∙ ap judgedDamaged e ∙ sym (same-damaged (judged N P i bytes) bytes)
+
+pub slot-damaged : (N P i : ℕ) (log bytes : List ℕ) (r : Bool) → bytes ≡ slotBytes log i → r ≡ isDamaged (slotIn (judged N P i bytes) bytes)
+    → r ≡ isDamaged (slotAt N P log i)
+unfolding slotAt
+slot-damaged N P i log bytes r e f = f ∙ ap (λ (x : List ℕ). isDamaged (slotIn (judged N P i x) x)) e
 
 module _ (N P : ℕ) (log : List ℕ) (i : ℕ) (j : Judged) (e : j ≡ judged N P i (part log (i * 512) 512)) where
   pub slot-sequence : sequenceOf j ≡ sequenceIn (slotAt N P log i)

@@ -23,6 +23,11 @@ isEmpty Unused = true
 isEmpty Damaged = false
 isEmpty (Valid block) = false
 
+abbrev pub judgedDamaged : Judged → Bool
+judgedDamaged Unused = false
+judgedDamaged Damaged = true
+judgedDamaged (Valid block) = false
+
 -- each slot's sequence, for a log of so many slots and a home of so many pages
 abbrev pub Sequences : ℕ → ℕ → List ℕ → List ℕ → Type 0
 Sequences slots pages log sequences = (i : ℕ) → i < slots → getD sequences i 0 ≡ sequenceIn (slotAt slots pages log i)

@@ -1,5 +1,5 @@
-// Open's reading of a log: every slot judged once, the lowest missing block, and the walk from keep-from to the newest block. It
-// knows blocks through the block crate's contracts, and dirty pages through the table's.
+// Open's reading of a log: every slot judged once, the lowest missing block, a damaged end, and the walk from keep-from to the newest
+// block. It knows blocks through the block crate's contracts, and dirty pages through the table's.
 use block::Block;
 use block::Judged;
 use block::Kind;
@@ -11,11 +11,14 @@ ghost use lib.ListN.{length};
 ghost use lib.Dec.{eqb, ltb, leb};
 ghost use Rattle.block.specs.Sizes.{blockSize, pageSize, sequenceEnd};
 ghost use Rattle.block.specs.Legal.{slotOf};
+ghost use Rattle.block.specs.Slot.{judged};
 ghost use Rattle.promises.specs.Areas.{slotBytes, slotsIn, pagesIn};
+ghost use Rattle.promises.specs.Blocks.{slotIn, slotAt};
+ghost use Rattle.promises.specs.Newest.{isDamaged};
 ghost use Rattle.table.specs.Table.{Applies, AppliesAll};
 ghost use Rattle.table.specs.Seats.{seated};
 ghost use Rattle.recovery.specs.Log.{headerOf, blockOf, updateOf, updatesFrom, Placed, Legal};
-ghost use Rattle.recovery.specs.Slots.{sequenceOf, isEmpty, Scanned, Lowest};
+ghost use Rattle.recovery.specs.Slots.{sequenceOf, isEmpty, judgedDamaged, Scanned, Lowest};
 ghost use Rattle.recovery.specs.Walking.{
   walkOf,
   stageRefused,
@@ -67,6 +70,17 @@ fn is_empty(judged: Judged) -> bool
     match judged {
         Judged::Unused => true,
         Judged::Damaged => false,
+        Judged::Valid(block) => false,
+    }
+}
+
+// Whether a slot is damaged.
+fn is_damaged(judged: Judged) -> bool
+    ensures { λ r. ⌜ r ≡ judgedDamaged judged ⌝ }
+{
+    match judged {
+        Judged::Unused => false,
+        Judged::Damaged => true,
         Judged::Valid(block) => false,
     }
 }
@@ -135,6 +149,24 @@ fn slot_bytes(log: &[u8], slot: usize) -> &[u8]
 {
     let at = slot * Block::SIZE;
     &log[at..at + Block::SIZE]
+}
+
+// Whether the 512 bytes of a slot, one of so many, are damaged there, for a home of so many pages.
+pub fn slot_damaged(bytes: &[u8], slots: u64, pages: usize, slot: u64) -> bool
+    requires { ⌜ (length (now bytes) ≡ blockSize) × (0 < slots) ⌝ }
+    ensures { λ r. ⌜ r ≡ isDamaged (slotIn (judged slots pages slot (now (bytes .entry))) (now (bytes .entry))) ⌝ }
+{
+    is_damaged(block::judge(bytes, slots, pages, slot))
+}
+
+// Whether the slot that a sequence goes to is damaged.
+pub fn damaged_at(log: &[u8], pages: usize, s: u64) -> bool
+    requires { ⌜ blockSize ≤ length (now log) ⌝ }
+    ensures { λ r. ⌜ r ≡ isDamaged (slotAt (slotsIn (length (now (log .entry)))) pages (now (log .entry)) (slotOf (slotsIn (length (now (log .entry)))) s)) ⌝ }
+{
+    let slots = log.len() / Block::SIZE;
+    let slot = s % slots as u64;
+    slot_damaged(slot_bytes(log, slot as usize), slots as u64, pages, slot)
 }
 
 // The header in the slot that a sequence goes to.

@@ -26,7 +26,7 @@ abbrev pub Ups : ℕ → List Update → Type 0
 Ups P [] = Unit {0}
 Ups P (u ∷ us) = (u .page < P) × Ups P us
 
-updates-snoc : (P : ℕ) (us : List Update) (u : Update) → Ups P us → u .page < P → Ups P (us ++ (u ∷ []))
+pub updates-snoc : (P : ℕ) (us : List Update) (u : Update) → Ups P us → u .page < P → Ups P (us ++ (u ∷ []))
 updates-snoc P [] u a h = (h, tt)
 updates-snoc P (v ∷ us) u a h = (a .0, updates-snoc P us u (a .1) h)
 

@@ -222,7 +222,7 @@ redo-committed s [] c h = refl
 redo-committed s (u ∷ us) tidy h = refl
 redo-committed s (u ∷ us) (dirty f vs) h = redo-append vs (u ∷ us) h
 
-legal-append : (n : ℕ) (us vs : List Update) → Legal n us → Legal n vs → Legal n (us ++ vs)
+pub legal-append : (n : ℕ) (us vs : List Update) → Legal n us → Legal n vs → Legal n (us ++ vs)
 unfolding Legal
 legal-append n [] vs a b = b
 legal-append n (u ∷ us) vs a b = (a .0, legal-append n us vs (a .1) b)

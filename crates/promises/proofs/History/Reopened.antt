@@ -12,7 +12,7 @@ use borrow.Author.Tests.{eq-eqb, ne-eqb, le-leb}
 use Rattle.promises.proofs.History.Legal.{Legal}
 use Rattle.promises.specs.Updates.{Update, redo}
 use Rattle.promises.proofs.History.Views.{Page, tidy, dirty, updatesOf, View, noView, committedOver, viewBlock, viewFrom, Begins}
-use Rattle.promises.specs.Blocks.{Kind, update, commit, clean, LogBlock}
+use Rattle.promises.specs.Blocks.{Kind, update, commit, clean, LogBlock, noBlock}
 use Rattle.promises.specs.Updates.{ofPage}
 use Rattle.promises.proofs.History.Machine.{lastKeep, Live, World, down, walk, recover}
 use Rattle.promises.specs.DirtyPages.{DirtyPage, Found, absent, at, lookUp, keepFromOf}
@@ -26,10 +26,12 @@ use Rattle.promises.proofs.History.Since.{AtLeast, Below, below-track}
 use Rattle.promises.proofs.History.Sees.{Sees, clear, held, by-eq}
 use Rattle.promises.proofs.History.WalkStart.{BeginsAt, commits, isCommit, Distinct, min-or, lookUp-head}
 use Rattle.promises.proofs.History.Invariant.{view, Disk, Keep, empty, from, Alive}
-use Rattle.promises.proofs.History.Ring.{Holds, noBlock, gathered-none, gathered-history, newest-le, newest-ge}
+use Rattle.promises.proofs.History.Ring.{Holds, gathered-none, gathered-history, newest-le, past-le, newest-history}
 use Rattle.promises.proofs.History.Tally.{tally, Pages, tally-zero}
 use Rattle.promises.proofs.History.Accepted.{formed-cap, Ups, Views, after, Formed, formed-append, ok-from, walkAt, step-updates, step-pages}
 use Rattle.promises.proofs.History.Recovered.{invariant-open, rest}
+use Rattle.promises.proofs.History.HalfEnd.{begins-le}
+use Rattle.promises.proofs.History.KeepFrom.{keepFrom-ge, first-ge, small}
 use Rattle.promises.proofs.History.Whole.{Kept, Runs, dirtyOf, count-dirty}
 
 pub last-keepFrom : (history : List LogBlock) → 0 < length history → getD history (length history - 1) noBlock .keepFrom ≡ lastKeep history
@@ -40,32 +42,11 @@ last-keepFrom (x ∷ y ∷ history) z =
     let q : length (x ∷ y ∷ history) - 1 ≡ suc (length (y ∷ history) - 1) = omega arith in
     ap (λ (n : ℕ). getD (x ∷ y ∷ history) n noBlock .keepFrom) q ∙ last-keepFrom (y ∷ history) (omega arith)
 
-pub begins-le : {history : List LogBlock} {m k : ℕ} → BeginsAt history m k → (0 < k) × (k ≤ length history)
-begins-le {history} g = let e : length history ≡ length (g .pre) + suc (length (g .post)) = ap length (g .split) ∙ length-append (g .pre) (g .block ∷ g .post) in
-    (omega (arith, g .place), omega (arith, g .place, e))
-
 walk-pages : (F P j m : ℕ) (home : ℕ → List ℕ) (bs : List LogBlock) (v : Walk) (ts : Views) → Formed F P j m ts bs → Ups P (v .group) → Pages P (v .dirtyPages) → Pages P (walk home j bs v .dirtyPages)
 unfolding walk
 walk-pages F P j m home [] v ts f a b = b
 walk-pages F P j m home (x ∷ bs) v ts f a b = walk-pages F P (suc j) (m + isCommit (x .kind)) home bs (walkBlock home j (x .kind) v) (after j (x .kind) ts) (f .1)
     (step-updates F P j m (x .ticket) home (x .kind) v ts (f .0) a) (step-pages P j home (x .kind) v a b)
-
--- all first groups are at least k
-pub keepFrom-ge : (k d : ℕ) (home : ℕ → List ℕ) (es : List DirtyPage) → Distinct es → ((p : ℕ) (e : DirtyPage) → lookUp p es ≡ at e → k ≤ e .first) → k ≤ d → k ≤ keepFromOf d es
-unfolding keepFromOf lookUp
-keepFrom-ge k d home [] u g h = h
-keepFrom-ge k d home (e ∷ es) u g h = min-or (λ n. k ≤ n) (e .first) (keepFromOf d es) (g (e .page) e (lookUp-head e es))
-    (keepFrom-ge k d home es (u .1) (λ p x q. by-eq p (e .page)
-    (λ y. let c : _≡_ {A = Found} absent (at x) = sym (u .0) ∙ ap (λ (n : ℕ). lookUp n es) (sym y) ∙ q in let n : _≡_ {A = ℕ} 0 1 = cc in absurd (omega arith))
-    (λ n. g p x (simp (ne-eqb _ _ n) q))) h)
-
-first-ge : {k : ℕ} {h : List ℕ} {x : Found} {c : Page} → AtLeast k c → Sees h x c → (e : DirtyPage) → x ≡ at e → k ≤ e .first
-first-ge a clear e q = let n : _≡_ {A = ℕ} 0 1 = cc in absurd (omega arith)
-first-ge {k} (AtLeast.some g) (held {e = y} f) e q = let s : y ≡ e = cc in subst (λ (t : DirtyPage). k ≤ t .first) s g
-
-small : {history : List LogBlock} → history ≡ [] → lastKeep history ≤ length history + 1
-unfolding lastKeep
-small e = rw e (omega arith)
 
 one-keepFrom : {history : List LogBlock} → history ≡ [] → lastKeep history ≡ 1
 unfolding lastKeep
@@ -89,23 +70,23 @@ module _ (z : Sizes) (log : List Slot) (home : ℕ → List ℕ) (b : Book) (his
   abbrev pub vw : Walk
   vw = walk home kf bs (walkAt (believed bs))
 
+  filled : Keep history (b .m) → 0 < length history → lastKeep history ≤ length history
+  filled (empty e m) h = absurd (omega (arith, ap length e))
+  filled (from g) h = begins-le g .1
+
   pub newest-is : newest log ≡ length history
   newest-is = go (length history) refl
     where
       go : (n : ℕ) → length history ≡ n → newest log ≡ length history
-      go zero e = omega (arith, newest-le (length history) log (k .holds .past))
-      go (suc n) e = omega (
-        arith,
-        newest-le (length history) log (k .holds .past),
-        rw (k .holds .recent (length history) (omega arith) (omega arith) (omega arith)) at (newest-ge log (length history % z .N)),
-      )
+      go zero e = omega (arith, newest-le (length history) log (λ i. past-le (z .N) (z .base) (length history) i (getD log i unused) (k .holds .past i)))
+      go (suc n) e = newest-history (z .N) (z .base) log history (k .holds) (omega (arith, k .based, filled (k .disk .keepFrom) (omega arith))) big
 
   pub gathered-is : gathered (z .N) log ≡ blocks bs
   gathered-is = go (k .disk .keepFrom)
     where
       go : Keep history (b .m) → gathered (z .N) log ≡ blocks (drop (lastKeep history - 1) history)
-      go (empty e m) = rw (e, drop-nil) (gathered-none (z .N) log (subst (Holds (z .N) log) e (k .holds)))
-      go (from g) = gathered-history (z .N) log history (lastKeep history) (k .holds) (omega (arith, begins-le g)) (last-keepFrom history (omega (arith, begins-le g))) (begins-le g .0) (begins-le g .1) (omega (arith, k .roomy))
+      go (empty e m) = rw (e, drop-nil) (gathered-none (z .N) (z .base) log (subst (Holds (z .N) (z .base) log) e (k .holds)))
+      go (from g) = gathered-history (z .N) (z .base) log history (lastKeep history) (k .holds) (k .based) (last-keepFrom history (omega (arith, begins-le g))) (begins-le g .1) (omega (arith, k .roomy))
 
   keepFrom-is : newest log + 1 - length bs ≡ kf
   keepFrom-is = go (k .disk .keepFrom)
@@ -147,7 +128,7 @@ module _ (z : Sizes) (log : List Slot) (home : ℕ → List ℕ) (b : Book) (his
       let a : Alive history home (recover home history) (gone b) = alive-now in
       let cd : tally (z .P) (dirtyOf history) ≡ length (vw .dirtyPages) = count-dirty z home (gone b) history (recover home history) a pages-now in
       let kl : kf ≤ length history + 1 = kf-le (k .disk .keepFrom) in
-      let o : kf ≤ keepFromOf (length history + 1) (vw .dirtyPages) = keepFrom-ge kf (length history + 1) home (vw .dirtyPages) (a .distinct) (λ p e q. first-ge (k .disk .least p) (a .sees p) e q) kl in
+      let o : kf ≤ keepFromOf (length history + 1) (vw .dirtyPages) = keepFrom-ge kf (length history + 1) (vw .dirtyPages) (a .distinct) (λ p e q. first-ge (k .disk .least p) (a .sees p) e q) kl in
       omega (arith, k .roomy, cd, o)
     where
       kf-le : Keep history (b .m) → lastKeep history ≤ length history + 1

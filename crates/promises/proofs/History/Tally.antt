@@ -57,6 +57,12 @@ abbrev pub Pages : ℕ → List DirtyPage → Type 0
 Pages P [] = Unit {0}
 Pages P (e ∷ es) = (e .page < P) × Pages P es
 
+-- a page that is found is a page
+pub lookUp-page : (P q : ℕ) (e : DirtyPage) (es : List DirtyPage) → lookUp q es ≡ at e → Pages P es → q < P
+unfolding lookUp
+lookUp-page P q e [] f p = let x : _≡_ {A = ℕ} 0 1 = cc in absurd (omega arith)
+lookUp-page P q e (y ∷ es) f p = by-eq q (y .page) (λ x. rw x (p .0)) (λ n. lookUp-page P q e es (simp (ne-eqb _ _ n) at f) (p .1))
+
 here-cons : (p : ℕ) (e : DirtyPage) (es : List DirtyPage) → lookUp (e .page) es ≡ absent → here (lookUp p (e ∷ es)) ≡ one (eqb p (e .page)) + here (lookUp p es)
 unfolding lookUp one
 here-cons p e es d = by-eq p (e .page)

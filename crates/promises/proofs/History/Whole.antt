@@ -22,11 +22,14 @@ use Rattle.promises.proofs.History.Stored.{store}
 use Rattle.promises.specs.Blocks.{Slot}
 use Rattle.promises.proofs.History.Sizes.{Sizes}
 use Rattle.promises.proofs.History.Sees.{Sees, clear, by-eq}
-use Rattle.promises.proofs.History.WalkStart.{commits, isCommit, commits-append, lastKeep-snoc, Distinct, distinct-all}
+use Rattle.promises.proofs.History.WalkStart.{commits, isCommit, commits-append, lastKeep-snoc, Distinct, distinct-all, distinct-without, keepFrom-le}
 use Rattle.promises.proofs.History.Invariant.{view, view-snoc, Disk, Half, whole, part, Well, Wells, Alive, Inv, counted, invariant-update, committed, invariant-commit, invariant-clean, invariant-front, invariant-back}
 use Rattle.promises.proofs.History.Ring.{Holds, holds-store}
 use Rattle.promises.proofs.History.Tally.{tally, tally-same, tally-lookUp, here, Pages, isDirty, sees-here}
+use Rattle.promises.proofs.History.HalfEnd.{HalfEnd, half-end-update, half-end-commit, half-end-clean, legal-at}
+use Rattle.promises.proofs.History.KeepFrom.{leastOf, least-is, keep-applied, keep-le, own-ge, keep-grows}
 use Rattle.promises.proofs.History.Accepted.{Ups, Formed, formed-snoc, Right, pages-all, pages-without}
+use Rattle.promises.proofs.History.Rules.{ownIn, Rules, Ruled, ruled-snoc}
 
 abbrev pub UpsQ : ℕ → List (List Update) → Type 0
 UpsQ P [] = Unit {0}
@@ -37,11 +40,28 @@ dirtyOf history p = isDirty (view history p .page)
 
 -- what log and home hold, with the history that was written
 pub record Kept (z : Sizes) (log : List Slot) (home : ℕ → List ℕ) (b : Book) (history : List LogBlock) : Type 0 where
-  pub holds : Holds (z .N) log history
+  pub holds : Holds (z .N) (z .base) log history
+  pub based : z .base ≤ lastKeep history
+  pub half : HalfEnd (z .P) history (b .m)
   pub formed : Formed (z .F) (z .P) 1 0 (λ p. noView) history
+  pub ruled : Ruled (z .N) (z .F) (z .P) (z .base) history
   pub total : commits history ≡ b .m
   pub roomy : length history + 1 - lastKeep history + tally (z .P) (dirtyOf history) ≤ z .N
   pub disk : Disk history home (b .pages) (b .m)
+
+-- of the book only m and the pages count
+pub same-book : {z : Sizes} {log : List Slot} {home : ℕ → List ℕ} {b b′ : Book} {history : List LogBlock} → b′ .m ≡ b .m → b′ .pages ≡ b .pages
+    → Kept z log home b history → Kept z log home b′ history
+same-book m p k = record {
+  holds = k .holds;
+  based = k .based;
+  half = rw m (k .half);
+  formed = k .formed;
+  ruled = k .ruled;
+  total = k .total ∙ sym m;
+  roomy = k .roomy;
+  disk = rw (m, p) (k .disk);
+}
 
 pub record Runs (z : Sizes) (home : ℕ → List ℕ) (b : Book) (history : List LogBlock) (n : ℕ) (l : Live) : Type 0 where
   pub next : n ≡ length history + 1
@@ -81,12 +101,18 @@ module _ (z : Sizes) (log : List Slot) (home : ℕ → List ℕ) (b : Book) (his
   grown : (x : LogBlock) (b′ : Book) (home′ : ℕ → List ℕ) → Right (z .F) (z .P) (length history + 1) (b .m) (view history) (x .kind) (x .ticket)
       → b′ .m ≡ b .m + isCommit (x .kind) → Disk (history ++ (x ∷ [])) home′ (b′ .pages) (b′ .m)
       → length history + 2 - x .keepFrom + tally (z .P) (dirtyOf (history ++ (x ∷ []))) ≤ z .N
+      → x .keepFrom ≡ leastOf (z .P) (ownIn (length history + 1) (x .kind) (view history 0)) (λ p. view (history ++ (x ∷ [])) p .page)
+      → lastKeep history ≤ x .keepFrom → HalfEnd (z .P) (history ++ (x ∷ [])) (b′ .m)
       → Kept z (store (z .N) (length history + 1) x log) home′ b′ (history ++ (x ∷ []))
-  grown x b′ home′ rt em dk rm =
+  grown x b′ home′ rt em dk rm kp mn hf =
       let ln : length (history ++ (x ∷ [])) ≡ length history + 1 = length-append history (x ∷ []) in
+      let rt′ : Right (z .F) (z .P) (length history + 1) (commits history) (view history) (x .kind) (x .ticket) = subst (λ (n : ℕ). Right (z .F) (z .P) (length history + 1) n (view history) (x .kind) (x .ticket)) (sym (k .total)) rt in
       record {
-        holds = holds-store (z .N) log history x big (k .holds);
-        formed = formed-snoc (z .F) (z .P) 1 0 (λ p. noView) history x (k .formed) (subst (λ (n : ℕ). Right (z .F) (z .P) (length history + 1) n (view history) (x .kind) (x .ticket)) (omega (arith, k .total)) rt);
+        holds = holds-store (z .N) (z .base) log history x big (omega (arith, k .based, keep-le history (b .m) (k .disk .keepFrom))) (k .holds);
+        based = rw (lastKeep-snoc history x) (omega (arith, k .based, mn));
+        half = hf;
+        formed = formed-snoc (z .F) (z .P) 1 0 (λ p. noView) history x (k .formed) (subst (λ (n : ℕ). Right (z .F) (z .P) (length history + 1) n (view history) (x .kind) (x .ticket)) (omega arith) rt′);
+        ruled = ruled-snoc (z .N) (z .F) (z .P) (z .base) history x (k .ruled) (record { right = rt′; keep = kp; room = rm });
         total = omega (arith, commits-append history (x ∷ []), k .total);
         roomy = rw (lastKeep-snoc history x) (omega (arith, rm, ln));
         disk = dk;
@@ -137,6 +163,19 @@ module _ (z : Sizes) (log : List Slot) (home : ℕ → List ℕ) (b : Book) (his
   abbrev updateBlock : List Update → LogBlock
   updateBlock g = record { kind = update (l .count + 1) (getD g (l .count) noUpdate); keepFrom = keepFromOf (length history + 1 - l .count) (l .dirtyPages); ticket = l .ticket }
 
+  keep-grown : lastKeep history ≤ keepFromOf (length history + 1 - l .count) (l .dirtyPages)
+  keep-grown = keep-grows history home (b .pages) (b .m) _ (l .dirtyPages) (k .disk) (r .alive .distinct) (r .alive .sees) (own-ge (z .P) history (b .m) (l .count) (l .queue) (k .disk .keepFrom) (k .half) (r .alive .half))
+
+  -- what an update counts beside the dirty pages: where its own group begins
+  own-is : Half history (b .m) (l .count) (l .queue) → length history + 1 - l .count ≡ cond (eqb (l .count + 1) 1) (length history + 1) (view history 0 .start)
+  own-is (whole y) = simp (eq-eqb (l .count + 1) 1 (omega arith)) (omega arith)
+  own-is (part g′ r′ e′ y le pd st bg) = simp (ne-eqb (l .count + 1) 1 (omega arith)) (sym (st 0))
+
+  -- and a commit
+  start-is : 0 < l .count → Half history (b .m) (l .count) (l .queue) → length history + 1 - l .count ≡ view history 0 .start
+  start-is h (whole y) = absurd (omega arith)
+  start-is h (part g′ r′ e′ y le pd st bg) = sym (st 0)
+
   abbrev liveAfterUpdate : Live
   liveAfterUpdate = record { ticket = l .ticket; queue = l .queue; count = l .count + 1; dirtyPages = l .dirtyPages; cleaning = l .cleaning }
 
@@ -151,7 +190,10 @@ module _ (z : Sizes) (log : List Slot) (home : ℕ → List ℕ) (b : Book) (his
       let pq : UpsQ (z .P) (g ∷ q) = rw e at (r .places) in (
         grown z log home b history l big k r (updateBlock g) (counted b) home
             (index-right history (b .m) (l .count) (l .queue) (r .alive .half), updates-at (z .P) g (l .count) h (pq .0), r .alive .ticket)
-            (omega arith) (i .disk) (omega (arith, cd, rm .slots)),
+            (omega arith) (i .disk) (omega (arith, cd, rm .slots)) (least-is (z .P) (length history + 1 - l .count) home (l .dirtyPages) (λ p. view (history ++ (updateBlock g ∷ [])) p .page) (a .distinct) (r .pages) (a .sees)
+            ∙ ap (λ (o : ℕ). leastOf (z .P) o (λ p. view (history ++ (updateBlock g ∷ [])) p .page)) (own-is (r .alive .half))) keep-grown
+            (half-end-update (z .P) (b .m) _ (l .count + 1) history (l .ticket) (getD g (l .count) noUpdate) (k .half) (index-right history (b .m) (l .count) (l .queue) (r .alive .half)) (r .alive .ticket)
+            (updates-at (z .P) g (l .count) h (pq .0)) (legal-at 1024 g (l .count) h (rw e at (r .alive .wells) .0 .1)) (rw (← (own-is (r .alive .half))) (keepFrom-le (length history + 1 - l .count) (l .dirtyPages)))),
         record { next = omega (arith, length-append history (updateBlock g ∷ [])); alive = a; pages = r .pages; places = r .places },
       )
 
@@ -178,7 +220,10 @@ module _ (z : Sizes) (log : List Slot) (home : ℕ → List ℕ) (b : Book) (his
       tally-same (z .P) _ _ (λ p. ap (λ (t : View). isDirty (t .page)) (sym (view-snoc history (commitBlock g) p))) in (
         grown z log home b history l big k r (commitBlock g) (committed b g q) home
             (omega arith, sym pr, ap (λ (n : ℕ). n + 1) (r .alive .ticket), omega (arith, sv, cd, le, rm .frames))
-            refl (i .disk) (omega (arith, cd, le, rm .slots)),
+            refl (i .disk) (omega (arith, cd, le, rm .slots))
+            (sym (keep-applied (length history + 1 - l .count) home g (l .dirtyPages))
+            ∙ least-is (z .P) (length history + 1 - l .count) home (liveAfterCommit g q .dirtyPages) (λ p. view (history ++ (commitBlock g ∷ [])) p .page) (a .distinct) pageFacts (a .sees)
+            ∙ ap (λ (o : ℕ). leastOf (z .P) o (λ p. view (history ++ (commitBlock g ∷ [])) p .page)) (start-is (omega (arith, ws .0 .0)) (r .alive .half))) keep-grown (half-end-commit (z .P) _ _ _ _ history),
         record { next = omega (arith, length-append history (commitBlock g ∷ [])); alive = a; pages = pageFacts; places = pq .1 },
       )
 
@@ -200,7 +245,9 @@ module _ (z : Sizes) (log : List Slot) (home : ℕ → List ℕ) (b : Book) (his
       let cd : tally (z .P) (dirtyOf (history ++ (cleanBlock q ∷ []))) ≡ length (without q (l .dirtyPages)) = count-dirty z home b (history ++ (cleanBlock q ∷ [])) (liveAfterClean q) a pageFacts in
       let ls : length (without q (l .dirtyPages)) + 1 ≤ length (l .dirtyPages) = without-less q e (l .dirtyPages) f in
       let ol : keepFromOf (length history + 1) (l .dirtyPages) ≤ keepFromOf (length history + 1) (without q (l .dirtyPages)) = keepFrom-without (length history + 1) q (l .dirtyPages) in (
-        grown z log home b history l big k r (cleanBlock q) b home (r .alive .ticket) (omega arith) (i .disk) (omega (arith, cd, ls, ol, rm)),
+        grown z log home b history l big k r (cleanBlock q) b home (r .alive .ticket) (omega arith) (i .disk) (omega (arith, cd, ls, ol, rm))
+            (least-is (z .P) (length history + 1) home (without q (l .dirtyPages)) (λ p. view (history ++ (cleanBlock q ∷ [])) p .page) (a .distinct) pageFacts (a .sees))
+            (omega (arith, ol, keep-grows history home (b .pages) (b .m) (length history + 1) (l .dirtyPages) (k .disk) (r .alive .distinct) (r .alive .sees) (keep-le history (b .m) (k .disk .keepFrom)))) (half-end-clean (z .P) _ _ _ _ history),
         record { next = omega (arith, length-append history (cleanBlock q ∷ [])); alive = a; pages = pageFacts; places = r .places },
       )
 
@@ -209,7 +256,7 @@ module _ (z : Sizes) (log : List Slot) (home : ℕ → List ℕ) (b : Book) (his
       → Alive history x (record { ticket = l .ticket; queue = l .queue; count = l .count; dirtyPages = l .dirtyPages; cleaning = c }) b
       → Kept z log x b history × Runs z x b history (length history + 1) (record { ticket = l .ticket; queue = l .queue; count = l .count; dirtyPages = l .dirtyPages; cleaning = c })
   kept-half x c d a = (
-    record { holds = k .holds; formed = k .formed; total = k .total; roomy = k .roomy; disk = d },
+    record { holds = k .holds; based = k .based; half = k .half; formed = k .formed; ruled = k .ruled; total = k .total; roomy = k .roomy; disk = d },
     record { next = refl; alive = a; pages = r .pages; places = r .places },
   )
 

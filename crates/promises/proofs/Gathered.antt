@@ -1,0 +1,48 @@
+-- What Open gathers from the slots, case by case.
+-- Assumes nothing.
+use mathlib.Core.Path.{_≡_, refl, sym, ap, _∙_}
+use Prim.Native.Nat.{ℕ, _+_, _-_}
+use mathlib.Core.Bool.{Bool, true, false, cond}
+use mathlib.Core.List.{List, [], _∷_}
+use native.Mathlib.Omega.{arith}
+use lib.Dec.{eqb}
+use borrow.Author.Tests.{eq-eqb, ne-eqb}
+use Rattle.block.proofs.Tests.{not-passed}
+use Rattle.promises.specs.Blocks.{LogBlock, Slot, unused, damaged, valid}
+use Rattle.promises.specs.Newest.{newest, keepOf, Gathered, missing, blocks, gather, allUnused, endDamaged, endTested, gathered}
+
+pub unused-newest : (slots : List Slot) → allUnused slots ≡ true → newest slots ≡ 0
+unfolding allUnused newest
+unused-newest [] h = refl
+unused-newest (unused ∷ slots) h = omega (arith, unused-newest slots h)
+unused-newest (damaged ∷ slots) h = let z : _≡_ {A = ℕ} 0 1 = cc in absurd (omega arith)
+unused-newest (valid q b ∷ slots) h = let z : _≡_ {A = ℕ} 0 1 = cc in absurd (omega arith)
+
+-- all slots unused
+pub gathered-fresh : (count : ℕ) (slots : List Slot) → allUnused slots ≡ true → gathered count slots ≡ blocks []
+unfolding gathered
+gathered-fresh count slots e = simp e
+
+-- no valid slot but a damaged one
+pub gathered-damaged : (count : ℕ) (slots : List Slot) → allUnused slots ≡ false → newest slots ≡ 0 → gathered count slots ≡ missing 0
+unfolding gathered
+gathered-damaged count slots e z = simp (e, eq-eqb (newest slots) 0 z)
+
+-- a newest block m with keep-from k: the blocks k to m, and then the end
+pub gathered-from : (count : ℕ) (slots : List Slot) (m k : ℕ) → newest slots ≡ m → keepOf count slots ≡ k → (m ≡ 0 → ⊥)
+    → gathered count slots ≡ endTested count slots (gather count slots (m + 1 - k) k)
+unfolding gathered
+gathered-from count slots m k em ek n =
+    let some : newest slots ≡ 0 → ⊥ = λ z. n (sym em ∙ z) in
+    let used : allUnused slots ≡ false = not-passed (allUnused slots) (λ e. some (unused-newest slots e)) in
+    simp (used, ne-eqb (newest slots) 0 some)
+    (ap (λ (x : ℕ). endTested count slots (gather count slots (x + 1 - keepOf count slots) (keepOf count slots))) em
+    ∙ ap (λ (x : ℕ). endTested count slots (gather count slots (m + 1 - x) x)) ek)
+
+-- a damaged end is one more than the newest
+pub end-missing : (count : ℕ) (slots : List Slot) (list : List LogBlock) → endDamaged count slots ≡ true
+    → endTested count slots (blocks list) ≡ missing (newest slots + 1)
+end-missing count slots list e = ap (λ (b : Bool). cond b (missing (newest slots + 1)) (blocks list)) e
+
+pub end-whole : (count : ℕ) (slots : List Slot) (list : List LogBlock) → endDamaged count slots ≡ false → endTested count slots (blocks list) ≡ blocks list
+end-whole count slots list e = ap (λ (b : Bool). cond b (missing (newest slots + 1)) (blocks list)) e
