@@ -419,6 +419,9 @@ enum store_answer store_open(struct store_state *state, struct store_area log, s
         if (++slot == slots)
             slot = 0;
     }
+    /* Now slot is the one after the newest block's. A damaged end is no end. */
+    if (sequences[slot] == 0 && memcmp(log.bytes + (size_t)slot * STORE_BLOCK_SIZE, ZEROES, STORE_BLOCK_SIZE) != 0)
+        return refuse_open(STORE_LOG_DAMAGED, newest + 1, state, frames, place_out);
 
     /* The walk finds the pages that are dirty at the end, their first groups and frames. No frame is
      * written yet: the log may still be refused, and a page may still be cleaned. */

@@ -1,5 +1,5 @@
 //! The worked cases of document 01: as a script, and as tests against its numbers; and the desks of
-//! document 02's request b.
+//! document 02's request b and the damaged logs of its request f.
 
 use crate::block::{encode, Block, Kind, BLOCK_SIZE};
 
@@ -104,8 +104,37 @@ fn desk_clean() -> Vec<String> {
     lines
 }
 
+/// Request f: logs whose end, newest block or older block is damaged in one byte, and mended again.
+fn damaged_ends() -> Vec<String> {
+    let mut lines = Vec::new();
+    // A settled transaction: blocks 1 and 2 in slots 1 and 2.
+    say(&mut lines, "a 8 4 2/f/o/b 1/d 0 0 1 42/e/l/l/s 1");
+    // The slot after the newest block, with the newest state and after a cut.
+    say(&mut lines, "p 1636 1/o/b 1/g/x/o/g/p 1636 0/o/s 1/r 0");
+    // The newest block: its commit.
+    say(&mut lines, "p 1124 1/x/o/p 1124 0/o/s 1/r 0");
+    // An older block, alone and with the slot after the newest.
+    say(&mut lines, "p 612 1/o/p 1636 1/o/p 612 0/o/p 1636 0/o");
+    // A slot further on.
+    say(&mut lines, "p 2148 1/o/r 0/p 2148 0");
+    // Block 1 again, in slot 3.
+    lines.extend(pokes(3, &case_2()));
+    say(&mut lines, "o/r 0");
+    // The only block.
+    say(
+        &mut lines,
+        "a 8 4 2/f/o/b 1/d 0 0 1 42/e/l/p 612 1/o/p 612 0/o",
+    );
+    // The last two sequences, in slots 6 and 7: the slot after them, then the newest.
+    say(
+        &mut lines,
+        "a 8 4 2/f/o/t 281474976710654/b 1/d 0 0 1 42/e/l/l/p 100 1/o/p 100 0/o/r 0/p 3684 1/o",
+    );
+    lines
+}
+
 /// Cases 5 to 13 in the script language, 8 slots, 4 pages and 2 frames unless said there; then three
-/// desks of request b, whose last lines are the same.
+/// desks of request b, whose last lines are the same; then the damaged logs of request f.
 pub fn script() -> String {
     let mut lines: Vec<String> = Vec::new();
     let all = u64::MAX;
@@ -186,6 +215,8 @@ pub fn script() -> String {
         lines.extend(desk_dirty(order, cut));
         lines.extend(desk_clean());
     }
+
+    lines.extend(damaged_ends());
 
     let mut text = String::new();
     for line in lines {
@@ -473,6 +504,25 @@ mod tests {
                 "opened 0 next 1",
                 "opened 0 next 1",
                 "opened 2 next 8",
+                "opened 0 next 1", // request f
+                "refused 7 place 3",
+                "refused 7 place 3",
+                "opened 1 next 3",
+                "refused 7 place 2",
+                "opened 1 next 3",
+                "refused 7 place 1",
+                "refused 7 place 1",
+                "refused 7 place 3",
+                "opened 1 next 3",
+                "opened 1 next 3",
+                "refused 7 place 3",
+                "opened 0 next 1", // the only block
+                "refused 7 place 0",
+                "opened 0 next 2",
+                "opened 0 next 1", // the last sequences
+                "refused 7 place 281474976710656",
+                "opened 1 next 281474976710656",
+                "refused 7 place 281474976710655",
             ]
         );
         // Case 10, twice.
@@ -499,8 +549,11 @@ mod tests {
         assert_eq!(log_of(digests[2]), log_of(digests[6]), "case 7");
         assert_eq!(log_of(digests[3]), log_of(digests[4]), "case 6");
         // Request b.
-        let desks = &digests[digests.len() - 3..];
+        let desks = &digests[digests.len() - 5..digests.len() - 2];
         assert_eq!((desks[1], desks[2]), (desks[0], desks[0]), "request b");
+        // Request f: an opening that is refused writes neither log nor home.
+        let refused = &digests[digests.len() - 2..];
+        assert_eq!(refused[0], refused[1], "request f");
     }
 
     /// The four numbers in every order.

@@ -107,6 +107,11 @@ pub fn table(count: u64, seed: u64) -> String {
         ("cuts in a half-stored group", counts.cuts_in_a_half_group),
         ("answers held to the book", counts.book_answers),
         ("openings held to the book", counts.book_openings),
+        (
+            "openings, the newest block damaged",
+            counts.damaged_openings,
+        ),
+        ("openings refused for the end", counts.damaged_ends),
     ];
     text.push('\n');
     for (name, number) in events {

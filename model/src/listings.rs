@@ -66,6 +66,33 @@ fn all_lines() -> String {
     show(&[0; 3584]);
     show(&[0; 4095]);
 
+    let mut end = vec![0; 4096];
+    group(&mut end, 1, 0, 1, 0);
+    end[1636] = 1;
+    show(&end);
+    let mut further = vec![0; 4096];
+    group(&mut further, 1, 0, 1, 0);
+    further[2148] = 1;
+    show(&further);
+    further[1124] = 1;
+    show(&further);
+    end[612] = 1;
+    show(&end);
+
+    let mut last = vec![0; 4096];
+    let clean = Kind::Clean { page: 0 };
+    store(
+        &mut last,
+        281474976710655,
+        281474976710655,
+        1,
+        clean.clone(),
+    );
+    last[100] = 1;
+    show(&last);
+    store(&mut last, 281474976710648, 281474976710648, 1, clean);
+    show(&last);
+
     let mut disordered = vec![0; 4096];
     store(&mut disordered, 1, 1, 0, update(1, 0));
     store(&mut disordered, 2, 1, 0, update(3, 1));

@@ -688,7 +688,8 @@ impl Maker {
         self.say("o");
     }
 
-    /// Changes single bytes of the log and opens it, mostly mends it again and opens it again.
+    /// Changes single bytes of the log, mostly near the newest block or in the slot after it, and opens
+    /// it, mostly mends it again and opens it again.
     fn damage(&mut self) {
         let mut changed = Vec::new();
         for _ in 0..self.random.from_to(1, 2) {
@@ -696,8 +697,7 @@ impl Maker {
             let length = self.store().log.len() as u64;
             let place = if state.slots > 0 && self.random.chance(80) {
                 let state = self.state();
-                let newest = state.next.wrapping_sub(1);
-                let sequence = newest.wrapping_sub(self.random.below(4));
+                let sequence = state.next.wrapping_sub(self.random.below(5));
                 let slot = slot_of(sequence, self.state().slots);
                 slot * BLOCK_SIZE as u64 + self.random.below(BLOCK_SIZE as u64)
             } else {

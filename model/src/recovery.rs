@@ -123,6 +123,11 @@ pub fn live_blocks(log: &[u8], slots: u64, pages: u64) -> Result<Vec<Block>, Ref
             _ => return Err(refused(Refusal::Damaged, sequence)),
         }
     }
+    // A damaged end is no end.
+    let end = newest.sequence + 1;
+    if held[slot_of(end, slots) as usize] == Slot::Damaged {
+        return Err(refused(Refusal::Damaged, end));
+    }
     Ok(blocks)
 }
 

@@ -167,6 +167,10 @@ pub struct Counts {
     pub cuts_in_a_half_group: u64,
     pub book_answers: u64,
     pub book_openings: u64,
+    /// Openings tried with the newest block damaged.
+    pub damaged_openings: u64,
+    /// Openings of a script that were refused for a damaged slot after the newest block.
+    pub damaged_ends: u64,
 }
 
 impl Counts {
@@ -185,6 +189,8 @@ impl Counts {
         self.cuts_in_a_half_group += other.cuts_in_a_half_group;
         self.book_answers += other.book_answers;
         self.book_openings += other.book_openings;
+        self.damaged_openings += other.damaged_openings;
+        self.damaged_ends += other.damaged_ends;
     }
 }
 
@@ -371,12 +377,23 @@ impl Runner {
             Command::Open => {
                 let (new_state, answer) = recovery::open(log, home, frames, staging, self.choice);
                 *state = new_state;
-                if let Ok(_) = answer {
-                    if !state.dirty.is_empty() {
-                        counts.openings_with_dirty_pages += 1;
+                match answer {
+                    Ok(_) => {
+                        if !state.dirty.is_empty() {
+                            counts.openings_with_dirty_pages += 1;
+                        }
+                        if ends_in_an_update(log, state) {
+                            counts.openings_of_half_groups += 1;
+                        }
                     }
-                    if ends_in_an_update(log, state) {
-                        counts.openings_of_half_groups += 1;
+                    Err(refused) => {
+                        let pages = (home.len() / PAGE_SIZE) as u64;
+                        if refused.refusal == Refusal::Damaged
+                            && refused.place > 0
+                            && refused.place == newest_in(log, pages) + 1
+                        {
+                            counts.damaged_ends += 1;
+                        }
                     }
                 }
                 if let Some(watch) = &mut self.watch {
@@ -543,6 +560,19 @@ fn count_a_choice(counts: &mut Counts, before: &State) {
             counts.cleanings_against_frames += 1;
         }
     }
+}
+
+/// The largest valid sequence of a log.
+fn newest_in(log: &[u8], pages: u64) -> u64 {
+    let slots = (log.len() / BLOCK_SIZE) as u64;
+    let mut newest = 0;
+    for slot in 0..slots {
+        let bytes = &log[area_range(slot, BLOCK_SIZE)];
+        if let Slot::Valid(block) = read_slot(bytes, slot, slots, pages) {
+            newest = newest.max(block.sequence);
+        }
+    }
+    newest
 }
 
 /// Whether the newest block of an opened log is an update, so that the end voids its group.

@@ -1,13 +1,13 @@
 //! Keeps the book beside a run and asserts that every accepted call answers what the book says,
-//! and that an opening after each store and each cut is accepted and shows the book's pages.
-//! It panics where the model breaks its own book.
+//! and that an opening after each store and each cut is accepted and shows the book's pages; and that
+//! it is refused with 7 if the newest block is damaged. It panics where the model breaks its own book.
 //!
 //! Demand 3 speaks of lists of calls that start at a finished Format, at the same sizes, where
 //! nobody else writes state and areas. A script can leave these lists. The watch then is either
 //! given up (the log is no longer what the calls made of it) or out of step until the next
 //! opening (only the state is not what the last call left).
 
-use crate::block::{BLOCK_SIZE, MAX_UPDATE_LENGTH, PAGE_SIZE};
+use crate::block::{read_slot, slot_of, Slot, BLOCK_SIZE, MAX_UPDATE_LENGTH, PAGE_SIZE};
 use crate::book::Book;
 use crate::calls::{self, FreeChoice, Refusal};
 use crate::recovery::{self, RefusedOpening};
@@ -22,6 +22,8 @@ pub struct Watch {
     pages_and_frames: Option<(u64, u64)>,
     /// Whether the state in hand is the one that the book's calls left.
     in_step: bool,
+    /// Whether the stored sequences have no gap: the script has not set next.
+    no_gap: bool,
 }
 
 impl Watch {
@@ -32,6 +34,7 @@ impl Watch {
             slots,
             pages_and_frames: None,
             in_step: false,
+            no_gap: true,
         }
     }
 
@@ -147,6 +150,9 @@ impl Watch {
     /// is how the book is kept up to the last sequence. Else the state is no longer the one that
     /// the calls left.
     pub fn next_is_set(&mut self, state: &State, next: u64) {
+        if next != state.next {
+            self.no_gap = false;
+        }
         let log_is_not_needed = state.dirty.is_empty() && state.stored == 0;
         if !(log_is_not_needed && next >= state.next) {
             self.book.open_or_cut();
@@ -181,5 +187,36 @@ impl Watch {
             );
         }
         counts.book_openings += 1;
+        if self.no_gap && state.next > 1 {
+            self.try_damaged(&log, &home, state.next - 1, counts);
+        }
+    }
+
+    /// An opening with the newest block damaged, each time in another byte.
+    fn try_damaged(&self, log: &[u8], home: &[u8], newest: u64, counts: &mut Counts) {
+        let Some((pages, frame_count)) = self.pages_and_frames else {
+            return;
+        };
+        let slot = slot_of(newest, self.slots);
+        let first = slot as usize * BLOCK_SIZE;
+        let mut log = log.to_vec();
+        let place = first + counts.damaged_openings as usize * 37 % BLOCK_SIZE;
+        log[place] = log[place].wrapping_add(1 + (counts.damaged_openings % 255) as u8);
+        let bytes = &log[first..first + BLOCK_SIZE];
+        assert_eq!(read_slot(bytes, slot, self.slots, pages), Slot::Damaged);
+        let mut frames = vec![99; frame_count as usize * PAGE_SIZE];
+        let staging = vec![99; frame_count as usize * MAX_UPDATE_LENGTH];
+        let (state, answer) =
+            recovery::open(&log, home, &mut frames, &staging, FreeChoice::Highest);
+        let refused = answer.expect_err("request f: the newest block is not passed over");
+        assert_eq!(
+            refused.refusal,
+            Refusal::Damaged,
+            "request f: refused with 7"
+        );
+        assert!(refused.place <= newest, "request f: the place");
+        assert!(state == State::all_zero());
+        assert!(frames.iter().all(|byte| *byte == 0));
+        counts.damaged_openings += 1;
     }
 }

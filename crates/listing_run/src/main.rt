@@ -93,6 +93,34 @@ fn damaged() {
     listing::show(&torn);
 }
 
+// Damaged ends: the slot after the newest block; a slot further on, which is no end; the newest block; an older one as well.
+fn damaged_ends() {
+    let mut log = [0; 4096];
+    group(&mut log, 1, 0, 1, 0);
+    log[1636] = 1;
+    listing::show(&log);
+    let mut further = [0; 4096];
+    group(&mut further, 1, 0, 1, 0);
+    further[2148] = 1;
+    listing::show(&further);
+    further[1124] = 1;
+    listing::show(&further);
+    log[612] = 1;
+    listing::show(&log);
+}
+
+// The last block that there may be, in slot 7: a damaged slot after it, and an older block there.
+fn last_end() {
+    let mut log = [0; 4096];
+    clean(&mut log, 281474976710655, 281474976710655, 0, 1);
+    log[100] = 1;
+    listing::show(&log);
+    let mut older = [0; 4096];
+    clean(&mut older, 281474976710655, 281474976710655, 0, 1);
+    clean(&mut older, 281474976710648, 281474976710648, 0, 1);
+    listing::show(&older);
+}
+
 // Logs out of order: an update whose index is neither 1 nor the next, a commit that does not close its group, a wrong ticket.
 fn disordered() {
     let mut log = [0; 4096];
@@ -130,6 +158,8 @@ fn main() {
     small();
     wrapped();
     damaged();
+    damaged_ends();
+    last_end();
     disordered();
     crowded();
     many();

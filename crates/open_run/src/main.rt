@@ -1,5 +1,5 @@
-// Open on logs made by hand: cases 5, 6, 7 and 12 of document 01, each refusal with its place, and a log that wraps. N is 8, P 4, F 2
-// unless the line says otherwise; home's bytes are 5, and frames hold 9 before each opening. One line for each.
+// Open on logs made by hand: cases 5, 6, 7 and 12 of document 01, each refusal with its place, damaged ends, and a log that wraps. N is
+// 8, P 4, F 2 unless the line says otherwise; home's bytes are 5, and frames hold 9 before each opening. One line for each.
 use block::Block;
 use libc::STDOUT_FILENO;
 use promises::Dirty;
@@ -8,7 +8,7 @@ use promises::Opened;
 use promises::Refusal;
 use promises::State;
 ghost use mathlib.Core.Path.{_≡_};
-ghost use Prim.Native.Nat.{_≤_};
+ghost use Prim.Native.Nat.{_≤_, _<_};
 ghost use lib.ListN.{length};
 ghost use Rattle.promises.specs.Answers.{numberOf};
 
@@ -106,12 +106,19 @@ fn run(label: &[u8], log: &[u8], count: usize)
     show(outcome, wide(frames[0]));
 }
 
-// Stores a block and its new bytes in its slot of eight.
+// Writes a block and its new bytes into a slot of eight.
+fn write_into(log: &mut [u8], slot: u64, block: Block, bytes: &[u8])
+    requires { ⌜ (length (now log) ≡ 4096) × (slot < 8) × (length (now bytes) ≤ 472) ⌝ }
+{
+    let at = slot as usize * Block::SIZE;
+    block::write(&mut log[at..at + Block::SIZE], block, bytes);
+}
+
+// Stores a block and its new bytes in its own slot.
 fn store(log: &mut [u8], block: Block, bytes: &[u8])
     requires { ⌜ (length (now log) ≡ 4096) × (length (now bytes) ≤ 472) ⌝ }
 {
-    let at = (block.sequence % 8) as usize * Block::SIZE;
-    block::write(&mut log[at..at + Block::SIZE], block, bytes);
+    write_into(log, block.sequence % 8, block, bytes);
 }
 
 // Blocks 1 and 2: byte 42 for page 0, and its commit.
@@ -130,13 +137,13 @@ fn second_group(log: &mut [u8])
     store(log, Block::commit(4, 1, 1, 2), b"");
 }
 
-// Blocks 3 to 8: half groups of one update each.
-fn half_groups(log: &mut [u8])
+// Blocks 3 to 8: half groups of one update each, after so many commits.
+fn half_groups(log: &mut [u8], ticket: u64)
     requires { ⌜ length (now log) ≡ 4096 ⌝ }
 {
     let mut sequence = 3;
     while sequence <= 8 {
-        store(log, Block::update(sequence, 1, 1, 0, 0, 1, 1), b"-");
+        store(log, Block::update(sequence, 1, 1, 0, 0, 1, ticket), b"-");
         sequence += 1;
     }
 }
@@ -169,6 +176,62 @@ fn damaged_logs() {
     run(b"no valid slot, one damaged: ", &junk, 2);
 }
 
+// A damaged end: the slot after the newest block, with an older block or without; the newest block itself; and a slot further on, which
+// is no end.
+fn damaged_ends() {
+    let mut log = [0; 4096];
+    one_group(&mut log);
+    log[1636] = 1;
+    run(b"slot 3 after block 2 damaged: ", &log, 2);
+    log[612] = 1;
+    run(b"and block 1 too: ", &log, 2);
+    let mut newest = [0; 4096];
+    one_group(&mut newest);
+    newest[1124] = 1;
+    run(b"block 2, the newest, damaged: ", &newest, 2);
+    let mut further = [0; 4096];
+    one_group(&mut further);
+    further[2148] = 1;
+    run(b"slot 4 after block 2 damaged: ", &further, 2);
+}
+
+// Block 1 in slot 3, where it is damaged; and the last block that there may be, with a damaged slot after it and with an older block there.
+fn other_ends() {
+    let mut log = [0; 4096];
+    one_group(&mut log);
+    write_into(&mut log, 3, Block::update(1, 1, 1, 0, 0, 1, 0), b"*");
+    run(b"block 1 in slot 3 too: ", &log, 2);
+    let mut last = [0; 4096];
+    store(
+        &mut last,
+        Block::clean(281474976710655, 281474976710655, 0, 1),
+        b"",
+    );
+    last[100] = 1;
+    run(b"slot 0 after block 2^48 - 1 damaged: ", &last, 2);
+    let mut older = [0; 4096];
+    store(
+        &mut older,
+        Block::clean(281474976710655, 281474976710655, 0, 1),
+        b"",
+    );
+    store(
+        &mut older,
+        Block::clean(281474976710648, 281474976710648, 0, 1),
+        b"",
+    );
+    run(b"block 2^48 - 8 in slot 0: ", &older, 2);
+}
+
+// Blocks 1 to 8, half groups of one update each: they fill all slots, and the slot after the newest holds block 1.
+fn full_log() {
+    let mut log = [0; 4096];
+    store(&mut log, Block::update(1, 1, 1, 0, 0, 1, 0), b"*");
+    store(&mut log, Block::update(2, 1, 1, 0, 0, 1, 0), b"*");
+    half_groups(&mut log, 0);
+    run(b"blocks 1 to 8 in 8 slots: ", &log, 2);
+}
+
 // Refusal 8: a wrong ticket, a commit that does not close its group, and H + D above N at the end.
 fn disordered_logs() {
     let mut log = [0; 4096];
@@ -182,7 +245,7 @@ fn disordered_logs() {
     run(b"commit of two updates after one: ", &open, 2);
     let mut long = [0; 4096];
     one_group(&mut long);
-    half_groups(&mut long);
+    half_groups(&mut long, 1);
     run(b"H 8 and D 1 of 8 slots: ", &long, 2);
 }
 
@@ -204,6 +267,9 @@ fn wrapped_logs() {
 fn main() {
     small_logs();
     damaged_logs();
+    damaged_ends();
+    other_ends();
+    full_log();
     disordered_logs();
     wrapped_logs();
 }

@@ -8,10 +8,10 @@ use Rattle.open_run.proofs.half_groups.Statement.{statement}
 use Rattle.open_run.proofs.half_groups.Tie as tie
 
 abbrev Inv-loop : tie.InvT-loop
-Inv-loop log₀ sequence₀ t3 log sequence = (length log ≡ length log₀) × (sequence ≤ 9)
+Inv-loop log₀ ticket sequence₀ t4 log sequence = (length log ≡ length log₀) × (sequence ≤ 9)
 
 abbrev μ-loop : tie.MeasureT-loop
-μ-loop log₀ sequence₀ t3 log sequence = 9 - sequence
+μ-loop log₀ ticket sequence₀ t4 log sequence = 9 - sequence
 
 loop-holds : tie.Need-loop-holds Inv-loop μ-loop
 loop-holds c = search needs
