@@ -94,10 +94,11 @@ fn examine_slots(log: &[u8], sequences: &mut [u64]) -> Examined
     let last = recovery::header(log, newest);
     let keep = last.keep_from;
     let lost = recovery::missing(sequences, keep, newest);
+    let end_damaged = recovery::damaged_at(log, PAGES, newest + 1);
     if lost <= newest {
         return refused(7, lost);
     }
-    if recovery::damaged_at(log, PAGES, newest + 1) {
+    if end_damaged {
         return refused(7, newest + 1);
     }
     let first = recovery::header(log, keep);

@@ -119,10 +119,11 @@ fn find(
     let last = recovery::header(log, newest);
     let keep = last.keep_from;
     let lost = recovery::missing(sequences, keep, newest);
+    let end_damaged = recovery::damaged_at(log, pages, newest + 1);
     if lost <= newest {
         return stopped(lost);
     }
-    if recovery::damaged_at(log, pages, newest + 1) {
+    if end_damaged {
         return stopped(newest + 1);
     }
     let first = recovery::header(log, keep);

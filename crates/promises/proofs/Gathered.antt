@@ -1,4 +1,4 @@
--- What Open gathers from the slots, case by case.
+-- What Open gathers from the slots: by hand on four slots, and case by case.
 -- Assumes nothing.
 use mathlib.Core.Path.{_≡_, refl, sym, ap, _∙_}
 use Prim.Native.Nat.{ℕ, _+_, _-_}
@@ -8,8 +8,46 @@ use native.Mathlib.Omega.{arith}
 use lib.Dec.{eqb}
 use borrow.Author.Tests.{eq-eqb, ne-eqb}
 use Rattle.block.proofs.Tests.{not-passed}
-use Rattle.promises.specs.Blocks.{LogBlock, Slot, unused, damaged, valid}
+use Rattle.promises.specs.Blocks.{clean, LogBlock, Slot, unused, damaged, valid}
 use Rattle.promises.specs.Newest.{newest, keepOf, Gathered, missing, blocks, gather, allUnused, endDamaged, endTested, gathered}
+
+-- ---- by hand, on four slots
+
+abbrev block : ℕ → LogBlock
+block keep = record { kind = clean 0; keepFrom = keep; ticket = 0 }
+
+-- blocks 1 and 2 with keep-from 1, and an unused slot after them: the end
+unused-is-an-end : gathered 4 (unused ∷ valid 1 (block 1) ∷ valid 2 (block 1) ∷ unused ∷ []) ≡ blocks (block 1 ∷ block 1 ∷ [])
+unfolding newest gather allUnused gathered
+unused-is-an-end = refl
+
+-- a damaged one: 3 is missing
+damaged-is-no-end : gathered 4 (unused ∷ valid 1 (block 1) ∷ valid 2 (block 1) ∷ damaged ∷ []) ≡ missing 3
+unfolding newest gather allUnused gathered
+damaged-is-no-end = refl
+
+-- block 1 is damaged too: it is missing first
+missing-first : gathered 4 (unused ∷ damaged ∷ valid 2 (block 1) ∷ damaged ∷ []) ≡ missing 1
+unfolding newest gather allUnused gathered
+missing-first = refl
+
+-- block 2 was the newest and is damaged: it is missing
+newest-damaged : gathered 4 (unused ∷ valid 1 (block 1) ∷ damaged ∷ unused ∷ []) ≡ missing 2
+unfolding newest gather allUnused gathered
+newest-damaged = refl
+
+-- a slot further on does not matter
+further-on : gathered 4 (damaged ∷ valid 1 (block 1) ∷ valid 2 (block 1) ∷ unused ∷ []) ≡ blocks (block 1 ∷ block 1 ∷ [])
+unfolding newest gather allUnused gathered
+further-on = refl
+
+-- blocks 1 to 4 fill all slots: the slot after the newest holds block 1
+full-log : gathered 4 (valid 4 (block 1) ∷ valid 1 (block 1) ∷ valid 2 (block 1) ∷ valid 3 (block 1) ∷ [])
+    ≡ blocks (block 1 ∷ block 1 ∷ block 1 ∷ block 1 ∷ [])
+unfolding newest gather allUnused gathered
+full-log = refl
+
+-- ---- case by case
 
 pub unused-newest : (slots : List Slot) → allUnused slots ≡ true → newest slots ≡ 0
 unfolding allUnused newest

@@ -62,6 +62,22 @@ missing-requires c κs =
     let range = keep-range (a .log .now) (length (a .sequences .now)) (p .0) (p .1) (p .2) (j .result) (j .last .1 .1 .0) size (j .ensures) some keep keep-is in
     (omega (arith, size), omega (arith, size), range .1, range .2)
 
+add-damaged-at : tie.Need-add-damaged-at
+add-damaged-at c =
+    let a = (c .before .before .before .before .before .before .before .before .before .before) .args in
+    let p = (c .before .before .before .before .before .before .before .before .before .before) .pre in
+    let j = (c .before .before .before .before .before .before) .judge-all in
+    let size = j .kept .1 .1 .0 in
+    let some = (c .before .before .before) .if1 .left in
+    let h = (c .before .before) .header in
+    let keep = h .result .«keep_from» in
+    let keep-is = ap (λ (b : Block). b .«keep_from») (h .ensures) in
+    let range = keep-range (a .log .now) (length (a .sequences .now)) (p .0) (p .1) (p .2) (j .result) (j .last .1 .1 .0) size (j .ensures) some keep keep-is in
+    omega (arith, range .2)
+
+damaged-at-requires : tie.Need-damaged-at-requires
+damaged-at-requires c κs = search needs
+
 refused-requires-2 : tie.Need-refused-requires-2
 refused-requires-2 c κs = search needs
 
@@ -70,32 +86,16 @@ same-length-3 c = search needs
 
 returns-3 : tie.Need-returns-3
 returns-3 c =
-    let a = (c .before .before .before .before .before .before .before .before .before .before .before .before) .args in
-    let p = (c .before .before .before .before .before .before .before .before .before .before .before .before) .pre in
-    let j = (c .before .before .before .before .before .before .before .before) .judge-all in
+    let a = (c .before .before .before .before .before .before .before .before .before .before .before .before .before) .args in
+    let p = (c .before .before .before .before .before .before .before .before .before .before .before .before .before) .pre in
+    let j = (c .before .before .before .before .before .before .before .before .before) .judge-all in
     let size = j .kept .1 .1 .0 in
-    let some = (c .before .before .before .before .before) .if1 .left in
-    let h = (c .before .before .before .before) .header in
+    let some = (c .before .before .before .before .before .before) .if1 .left in
+    let h = (c .before .before .before .before .before) .header in
     let keep = h .result .«keep_from» in
     let keep-is = ap (λ (b : Block). b .«keep_from») (h .ensures) in
     let r = c .refused2 .ensures in
-    examines-lost (a .log .now) (length (a .sequences .now)) (p .0) (p .1) (p .2) (j .result) (j .last .1 .1 .0) size (j .ensures) some keep keep-is _ ((c .before .before) .missing .ensures) _ ((c .before) .if3 .taken) (r .0) (r .1)
-
-add-damaged-at : tie.Need-add-damaged-at
-add-damaged-at c =
-    let a = (c .before .before .before .before .before .before .before .before .before .before .before) .args in
-    let p = (c .before .before .before .before .before .before .before .before .before .before .before) .pre in
-    let j = (c .before .before .before .before .before .before .before) .judge-all in
-    let size = j .kept .1 .1 .0 in
-    let some = (c .before .before .before .before) .if1 .left in
-    let h = (c .before .before .before) .header in
-    let keep = h .result .«keep_from» in
-    let keep-is = ap (λ (b : Block). b .«keep_from») (h .ensures) in
-    let range = keep-range (a .log .now) (length (a .sequences .now)) (p .0) (p .1) (p .2) (j .result) (j .last .1 .1 .0) size (j .ensures) some keep keep-is in
-    omega (arith, range .2)
-
-damaged-at-requires : tie.Need-damaged-at-requires
-damaged-at-requires c κs = search needs
+    examines-lost (a .log .now) (length (a .sequences .now)) (p .0) (p .1) (p .2) (j .result) (j .last .1 .1 .0) size (j .ensures) some keep keep-is _ ((c .before .before .before) .missing .ensures) _ ((c .before) .if3 .taken) (r .0) (r .1)
 
 add-refused : tie.Need-add-refused
 add-refused c =
@@ -127,7 +127,7 @@ returns-4 c =
     let keep = h .result .«keep_from» in
     let keep-is = ap (λ (b : Block). b .«keep_from») (h .ensures) in
     let r = c .refused3 .ensures in
-    examines-end (a .log .now) (length (a .sequences .now)) (p .0) (p .1) (p .2) (j .result) (j .last .1 .1 .0) size (j .ensures) some keep keep-is _ ((c .before .before .before .before) .missing .ensures) ((c .before .before .before) .if3 .left) _ _ ((c .before .before) .damaged-at .ensures) ((c .before) .if4 .taken) (r .0) (r .1)
+    examines-end (a .log .now) (length (a .sequences .now)) (p .0) (p .1) (p .2) (j .result) (j .last .1 .1 .0) size (j .ensures) some keep keep-is _ ((c .before .before .before .before) .missing .ensures) ((c .before .before) .if3 .left) _ _ ((c .before .before .before) .damaged-at .ensures) ((c .before) .if4 .taken) (r .0) (r .1)
 
 header-requires-2 : tie.Need-header-requires-2
 header-requires-2 c κs = search needs
@@ -143,7 +143,7 @@ walk-blocks-requires c κs =
     let keep = h .result .«keep_from» in
     let keep-is = ap (λ (b : Block). b .«keep_from») (h .ensures) in
     let range = keep-range (a .log .now) (length (a .sequences .now)) (p .0) (p .1) (p .2) (j .result) (j .last .1 .1 .0) size (j .ensures) some keep keep-is in
-    let plain = ordinary-at (a .log .now) (length (a .sequences .now)) (p .0) (p .1) (p .2) (j .result) (j .last .1 .1 .0) size (j .ensures) some keep keep-is _ ((c .before .before .before .before) .missing .ensures) ((c .before .before .before) .if3 .left) in (
+    let plain = ordinary-at (a .log .now) (length (a .sequences .now)) (p .0) (p .1) (p .2) (j .result) (j .last .1 .1 .0) size (j .ensures) some keep keep-is _ ((c .before .before .before .before) .missing .ensures) ((c .before .before) .if3 .left) in (
       omega arith,
       range .0,
       range .1,
@@ -187,7 +187,7 @@ returns-5 c =
     let t = (c .before .before .before) .last-test in
     let walked = t .ensures ∙ ap (ended (length (a .sequences .now))) (w .ensures .0 ∙ ap (λ (b : Block). steps 32 (headersFrom (a .log .now) keep (j .result .newest + 1 - keep)) (started keep (b .ticket))) (g .ensures)) in
     let r = c .refused4 .ensures in
-    examines-refused (a .log .now) (length (a .sequences .now)) (p .0) (p .1) (p .2) (j .result) (j .last .1 .1 .0) size (j .ensures) some keep keep-is _ ((c .before .before .before .before .before .before .before .before .before) .missing .ensures) ((c .before .before .before .before .before .before .before .before) .if3 .left) _ ((c .before .before .before .before .before .before .before) .damaged-at .ensures) ((c .before .before .before .before .before .before) .if4 .left) (t .result) walked _ ((c .before) .if5 .taken) (r .0) (r .1)
+    examines-refused (a .log .now) (length (a .sequences .now)) (p .0) (p .1) (p .2) (j .result) (j .last .1 .1 .0) size (j .ensures) some keep keep-is _ ((c .before .before .before .before .before .before .before .before .before) .missing .ensures) ((c .before .before .before .before .before .before .before) .if3 .left) _ ((c .before .before .before .before .before .before .before .before) .damaged-at .ensures) ((c .before .before .before .before .before .before) .if4 .left) (t .result) walked _ ((c .before) .if5 .taken) (r .0) (r .1)
 
 same-length-6 : tie.Need-same-length-6
 same-length-6 c = (c .before .before .before .before .before .before .before .before .before .before .before .before .before .before) .judge-all .kept .1 .1 .0
@@ -206,7 +206,7 @@ returns-6 c =
     let w = (c .before .before .before) .walk-blocks in
     let t = (c .before .before) .last-test in
     let walked = t .ensures ∙ ap (ended (length (a .sequences .now))) (w .ensures .0 ∙ ap (λ (b : Block). steps 32 (headersFrom (a .log .now) keep (j .result .newest + 1 - keep)) (started keep (b .ticket))) (g .ensures)) in
-    examines-accepted (a .log .now) (length (a .sequences .now)) (p .0) (p .1) (p .2) (j .result) (j .last .1 .1 .0) size (j .ensures) some keep keep-is _ ((c .before .before .before .before .before .before .before .before) .missing .ensures) ((c .before .before .before .before .before .before .before) .if3 .left) _ ((c .before .before .before .before .before .before) .damaged-at .ensures) ((c .before .before .before .before .before) .if4 .left) (t .result) walked _ (c .if5 .left) refl refl refl refl
+    examines-accepted (a .log .now) (length (a .sequences .now)) (p .0) (p .1) (p .2) (j .result) (j .last .1 .1 .0) size (j .ensures) some keep keep-is _ ((c .before .before .before .before .before .before .before .before) .missing .ensures) ((c .before .before .before .before .before .before) .if3 .left) _ ((c .before .before .before .before .before .before .before) .damaged-at .ensures) ((c .before .before .before .before .before) .if4 .left) (t .result) walked _ (c .if5 .left) refl refl refl refl
 
 pub examine-slots-spec : {M : Type 1} → statement M
 examine-slots-spec =
@@ -221,11 +221,11 @@ examine-slots-spec =
     returns-2
     header-requires
     missing-requires
+    add-damaged-at
+    damaged-at-requires
     refused-requires-2
     same-length-3
     returns-3
-    add-damaged-at
-    damaged-at-requires
     add-refused
     refused-requires-3
     same-length-4

@@ -70,6 +70,19 @@ missing-requires c κs =
     let b = keep-bounds (a .log .now) (a .home .now) (j .last .1 .1 .0) (j .result) n (p .0) (p .1) size (j .ensures) ((c .before .before) .if1 .left) ((c .before) .header .result) ((c .before) .header .ensures) in
     (omega (arith, size), omega (arith, size), b .1, b .2)
 
+add-damaged-at : tie.Need-add-damaged-at
+add-damaged-at c =
+    let a = (c .before .before .before .before .before .before .before .before .before .before .before .before .before) .args in
+    let j = (c .before .before .before .before .before .before) .judge-all in
+    let p = (c .before .before .before .before .before .before .before .before .before .before .before .before .before) .pre in
+    let n = length (a .sequences .now) in
+    let size = j .kept .1 .1 .0 in
+    let b = keep-bounds (a .log .now) (a .home .now) (j .last .1 .1 .0) (j .result) n (p .0) (p .1) size (j .ensures) ((c .before .before .before) .if1 .left) ((c .before .before) .header .result) ((c .before .before) .header .ensures) in
+    omega (arith, b .2)
+
+damaged-at-requires : tie.Need-damaged-at-requires
+damaged-at-requires c κs = search needs
+
 stopped-requires-2 : tie.Need-stopped-requires-2
 stopped-requires-2 c κs = search needs
 
@@ -78,26 +91,13 @@ same-length-5 c = search needs
 
 returns-3 : tie.Need-returns-3
 returns-3 c =
-    let a = (c .before .before .before .before .before .before .before .before .before .before .before .before .before .before .before) .args in
-    let j = (c .before .before .before .before .before .before .before .before) .judge-all in
-    let p = (c .before .before .before .before .before .before .before .before .before .before .before .before .before .before .before) .pre in
+    let a = (c .before .before .before .before .before .before .before .before .before .before .before .before .before .before .before .before) .args in
+    let j = (c .before .before .before .before .before .before .before .before .before) .judge-all in
+    let p = (c .before .before .before .before .before .before .before .before .before .before .before .before .before .before .before .before) .pre in
     let n = length (a .sequences .now) in
     let size = j .kept .1 .1 .0 in
-    reads-missing (a .log .now) (a .home .now) (j .last .1 .1 .0) (j .result) n (p .0) (p .1) size (j .ensures) ((c .before .before .before .before .before) .if1 .left) ((c .before .before .before .before) .header .result) ((c .before .before .before .before) .header .ensures) _ ((c .before .before) .missing .ensures) (framesIn (length (a .frames .now))) (framesIn (length (a .frames .now))) _ _ ((c .before) .if3 .taken)
+    reads-missing (a .log .now) (a .home .now) (j .last .1 .1 .0) (j .result) n (p .0) (p .1) size (j .ensures) ((c .before .before .before .before .before .before) .if1 .left) ((c .before .before .before .before .before) .header .result) ((c .before .before .before .before .before) .header .ensures) _ ((c .before .before .before) .missing .ensures) (framesIn (length (a .frames .now))) (framesIn (length (a .frames .now))) _ _ ((c .before) .if3 .taken)
     (ap (λ (x : Found). foundOf x (a .seats .now)) (c .stopped2 .ensures) ∙ stopped-is _ (a .seats .now) (p .5) (p .6) _)
-
-add-damaged-at : tie.Need-add-damaged-at
-add-damaged-at c =
-    let a = (c .before .before .before .before .before .before .before .before .before .before .before .before .before .before) .args in
-    let j = (c .before .before .before .before .before .before .before) .judge-all in
-    let p = (c .before .before .before .before .before .before .before .before .before .before .before .before .before .before) .pre in
-    let n = length (a .sequences .now) in
-    let size = j .kept .1 .1 .0 in
-    let b = keep-bounds (a .log .now) (a .home .now) (j .last .1 .1 .0) (j .result) n (p .0) (p .1) size (j .ensures) ((c .before .before .before .before) .if1 .left) ((c .before .before .before) .header .result) ((c .before .before .before) .header .ensures) in
-    omega (arith, b .2)
-
-damaged-at-requires : tie.Need-damaged-at-requires
-damaged-at-requires c κs = search needs
 
 add-stopped : tie.Need-add-stopped
 add-stopped c =
@@ -122,7 +122,7 @@ returns-4 c =
     let p = (c .before .before .before .before .before .before .before .before .before .before .before .before .before .before .before .before .before) .pre in
     let n = length (a .sequences .now) in
     let size = j .kept .1 .1 .0 in
-    reads-end (a .log .now) (a .home .now) (j .last .1 .1 .0) (j .result) n (p .0) (p .1) size (j .ensures) ((c .before .before .before .before .before .before .before) .if1 .left) ((c .before .before .before .before .before .before) .header .result) ((c .before .before .before .before .before .before) .header .ensures) _ ((c .before .before .before .before) .missing .ensures) ((c .before .before .before) .if3 .left) (framesIn (length (a .frames .now))) (framesIn (length (a .frames .now))) _ _ _ ((c .before .before) .damaged-at .ensures) ((c .before) .if4 .taken)
+    reads-end (a .log .now) (a .home .now) (j .last .1 .1 .0) (j .result) n (p .0) (p .1) size (j .ensures) ((c .before .before .before .before .before .before .before) .if1 .left) ((c .before .before .before .before .before .before) .header .result) ((c .before .before .before .before .before .before) .header .ensures) _ ((c .before .before .before .before) .missing .ensures) ((c .before .before) .if3 .left) (framesIn (length (a .frames .now))) (framesIn (length (a .frames .now))) _ _ _ ((c .before .before .before) .damaged-at .ensures) ((c .before) .if4 .taken)
     (ap (λ (x : Found). foundOf x (a .seats .now)) (c .stopped3 .ensures) ∙ stopped-is _ (a .seats .now) (p .5) (p .6) _)
 
 header-requires-2 : tie.Need-header-requires-2
@@ -136,7 +136,7 @@ walked-requires-2 c κs =
     let n = length (a .sequences .now) in
     let size = j .kept .1 .1 .0 in
     let b = keep-bounds (a .log .now) (a .home .now) (j .last .1 .1 .0) (j .result) n (p .0) (p .1) size (j .ensures) ((c .before .before .before .before .before .before .before .before .before) .if1 .left) ((c .before .before .before .before .before .before .before .before) .header .result) ((c .before .before .before .before .before .before .before .before) .header .ensures) in
-    let legal = all-legal (a .log .now) (a .home .now) (j .last .1 .1 .0) (j .result) n (p .0) (p .1) size (j .ensures) ((c .before .before .before .before .before .before .before .before .before) .if1 .left) ((c .before .before .before .before .before .before .before .before) .header .result) ((c .before .before .before .before .before .before .before .before) .header .ensures) _ ((c .before .before .before .before .before .before) .missing .ensures) ((c .before .before .before .before .before) .if3 .left) in
+    let legal = all-legal (a .log .now) (a .home .now) (j .last .1 .1 .0) (j .result) n (p .0) (p .1) size (j .ensures) ((c .before .before .before .before .before .before .before .before .before) .if1 .left) ((c .before .before .before .before .before .before .before .before) .header .result) ((c .before .before .before .before .before .before .before .before) .header .ensures) _ ((c .before .before .before .before .before .before) .missing .ensures) ((c .before .before .before .before) .if3 .left) in
     let k = (c .before .before .before .before .before .before .before .before) .header .result .«keep_from» in
     let t = legal-numbers (a .log .now) (a .home .now) k (legal k (omega arith) (b .1)) .1 in (
       (omega arith, omega arith, p .3, p .4, p .5, p .6),
@@ -159,7 +159,7 @@ returns-5 c =
     let p = (c .before .before .before .before .before .before .before .before .before .before .before .before .before .before .before .before .before .before .before .before .before .before .before .before) .pre in
     let n = length (a .sequences .now) in
     let size = j .kept .1 .1 .0 in
-    reads-blocks (a .log .now) (a .home .now) (j .last .1 .1 .0) (j .result) n (p .0) (p .1) size (j .ensures) ((c .before .before .before .before .before .before .before .before .before .before .before .before .before .before) .if1 .left) ((c .before .before .before .before .before .before .before .before .before .before .before .before .before) .header .result) ((c .before .before .before .before .before .before .before .before .before .before .before .before .before) .header .ensures) _ ((c .before .before .before .before .before .before .before .before .before .before .before) .missing .ensures) ((c .before .before .before .before .before .before .before .before .before .before) .if3 .left) (framesIn (length (a .frames .now))) (framesIn (length (a .frames .now))) _ _ _ ((c .before .before .before .before .before .before .before .before .before) .damaged-at .ensures) ((c .before .before .before .before .before .before .before .before) .if4 .left) _ (ap (λ (x : Block). x .ticket) ((c .before .before .before .before .before .before .before) .header2 .ensures))
+    reads-blocks (a .log .now) (a .home .now) (j .last .1 .1 .0) (j .result) n (p .0) (p .1) size (j .ensures) ((c .before .before .before .before .before .before .before .before .before .before .before .before .before .before) .if1 .left) ((c .before .before .before .before .before .before .before .before .before .before .before .before .before) .header .result) ((c .before .before .before .before .before .before .before .before .before .before .before .before .before) .header .ensures) _ ((c .before .before .before .before .before .before .before .before .before .before .before) .missing .ensures) ((c .before .before .before .before .before .before .before .before .before) .if3 .left) (framesIn (length (a .frames .now))) (framesIn (length (a .frames .now))) _ _ _ ((c .before .before .before .before .before .before .before .before .before .before) .damaged-at .ensures) ((c .before .before .before .before .before .before .before .before) .if4 .left) _ (ap (λ (x : Block). x .ticket) ((c .before .before .before .before .before .before .before) .header2 .ensures))
     ((c .before .before .before .before) .walked2 .ensures)
 
 pub find-spec : {M : Type 1} → statement M
@@ -177,11 +177,11 @@ find-spec =
     returns-2
     header-requires
     missing-requires
+    add-damaged-at
+    damaged-at-requires
     stopped-requires-2
     same-length-5
     returns-3
-    add-damaged-at
-    damaged-at-requires
     add-stopped
     stopped-requires-3
     same-length-6
