@@ -1,7 +1,7 @@
 -- Demand 3 of the code as shipped, and what follows from it for a desk.
 -- Assumes nothing.
 use denote.Ref.{now}
-use mathlib.Core.Path.{_≡_, subst}
+use mathlib.Core.Path.{subst}
 use mathlib.Core.List.{List}
 use Prim.Native.Nat.{ℕ}
 use Rattle.promises.specs.declared.Answer.{Answer}

@@ -16,7 +16,7 @@ use Rattle.block.specs.declared.Kind.the-variants.{Update, Commit, Clean}
 use Rattle.block.proofs.Facts.{facts, Facts}
 use Rattle.promises.specs.Areas.{slotsIn}
 use Rattle.promises.specs.Blocks.{slotAt, slotsOf}
-use Rattle.promises.specs.Newest.{sequenceIn, newest, blocks, allUnused, isDamaged}
+use Rattle.promises.specs.Newest.{sequenceIn, blocks, allUnused, isDamaged}
 use Rattle.promises.specs.Walk.{stops, stands, finding}
 use Rattle.promises.proofs.Gathered.{gathered-fresh}
 use Rattle.promises.proofs.Soundness.{and2}

@@ -13,7 +13,7 @@ use Rattle.block.specs.declared.Block.{Block}
 use Rattle.block.proofs.Facts.{facts, Facts}
 use Rattle.promises.specs.Areas.{pageAt, slotsIn, pagesIn}
 use Rattle.promises.specs.Blocks.{slotAt}
-use Rattle.promises.specs.Newest.{sequenceIn, isDamaged, newest}
+use Rattle.promises.specs.Newest.{sequenceIn, isDamaged}
 use Rattle.promises.specs.Walk.{Finding, stops, walkFrom, startWith, finding}
 use Rattle.recovery.specs.declared.Scan.{Scan}
 use Rattle.recovery.specs.Log.{headerOf, blocksFrom, Legal}

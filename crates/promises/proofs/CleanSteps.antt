@@ -1,39 +1,38 @@
 -- Clean step keeps the invariant.
 -- Assumes nothing.
 use mathlib.Core.Path.{_≡_, refl, sym, ap, _∙_, subst}
-use mathlib.Core.Bool.{Bool, true, false, cond, not, _&&_, _||_}
-use Prim.Native.Nat.{ℕ, zero, suc, _+_, _*_, _-_, _%_, _^_, _≤_, _<_}
+use mathlib.Core.Bool.{true, cond}
+use Prim.Native.Nat.{ℕ, _+_, _*_, _-_, _^_, _≤_, _<_}
 use mathlib.Core.List.{List, [], _∷_, _++_}
 use native.Mathlib.Omega.{arith}
 use lib.ListN.{length, take, drop, length-take, length-drop}
 use lib.Seq.{take-all}
-use lib.Dec.{eqb, leb, ltb}
-use borrow.Author.Tests.{leb-true, ltb-true, eqb-true, eqb-false, eq-eqb, ne-eqb}
+use lib.Dec.{eqb}
+use borrow.Author.Tests.{eqb-true, eqb-false}
 use Rattle.promises.specs.declared.State.{State}
 use Rattle.promises.specs.declared.Cleaning.{Cleaning}
 use Rattle.promises.specs.declared.Cleaning.the-variants.{Idle, First, Second, Third}
 use Rattle.area.specs.Part.{part}
 use Rattle.promises.specs.Areas.{pageAt, withFirstHalf, withSecondHalf}
-use Rattle.promises.specs.Updates.{Update}
-use Rattle.promises.specs.Blocks.{Kind, update, commit, clean, LogBlock, Slot, slotsOf}
+use Rattle.promises.specs.Blocks.{clean, LogBlock, Slot, slotsOf}
 use Rattle.promises.specs.DirtyPages.{DirtyPage, Found, at, lookUp, keepFromOf, without}
-use Rattle.promises.specs.Contents.{Contents, contentsOf, dirtyOf, queueOf}
+use Rattle.promises.specs.Contents.{contentsOf, dirtyOf, queueOf}
 use Rattle.promises.specs.Sound.{sound}
-use Rattle.promises.specs.Sums.{sequencesTaken, waitingBlocks, owedBlocks, dirtyCount}
+use Rattle.promises.specs.Sums.{sequencesTaken, dirtyCount}
 use Rattle.promises.specs.Blocks.{stored}
 use Rattle.promises.specs.LogStep.{areasFit}
-use Rattle.promises.specs.CleanStep.{thirdRefusal, cleanRefusal, cleanRefusalOf, Takes, cleanBlock, Store, cleanStore, CleanStep, CleanSteps, cleaningAt, cleanStored}
+use Rattle.promises.specs.CleanStep.{thirdRefusal, cleanRefusal, cleanRefusalOf, Takes, cleanBlock, cleanStore, cleaningAt, cleanStored}
 use Rattle.promises.proofs.Changes.{pick-zero, pick-other}
 use Rattle.promises.proofs.History.Machine.{Live, idle, second, third, setPage, halfStored, World as Machine, up}
 use Rattle.promises.proofs.History.Machine as machine
 use Rattle.promises.proofs.History.Ledger as ledger
 use Rattle.promises.proofs.History.Stored.{store}
 use Rattle.promises.proofs.History.Sees.{by-eq, Sees}
-use Rattle.promises.proofs.History.Invariant.{Inv, Stage, frame-right, invariant-front, invariant-back, Disk, Alive, view, same-page, other-page}
+use Rattle.promises.proofs.History.Invariant.{Stage, frame-right, invariant-front, invariant-back, Disk, Alive, view, same-page, other-page}
 use Rattle.promises.proofs.History.Tally.{lookUp-page}
 use Rattle.promises.proofs.History.Whole.{Kept, Runs, kept-clean, kept-half}
 use Rattle.promises.specs.Book.{Book}
-use Rattle.promises.specs.Events.{Sizes, World, Call, cleanStep, Reply, accepts}
+use Rattle.promises.specs.Events.{Sizes, World, cleanStep, Reply, accepts}
 use Rattle.promises.specs.Events as events
 use Rattle.promises.specs.Stored.{storesBlock, newBlock, storedIn}
 use Rattle.promises.proofs.Ranges.{Ranged}
@@ -42,7 +41,7 @@ use Rattle.block.proofs.Facts.{NumberFacts}
 use Rattle.promises.proofs.Pages.{first-half, second-half, first-other, second-other}
 use Rattle.promises.proofs.Slots.{KindFits}
 use Rattle.promises.proofs.SoundFacts.{Facts, facts}
-use Rattle.promises.proofs.Kept.{sizesOf, bookOf, liveOf, stageOf, Lives, Good, Matches, lives-from}
+use Rattle.promises.proofs.Kept.{sizesOf, bookOf, liveOf, stageOf, Lives, Good, lives-from}
 use Rattle.promises.proofs.Replies.{refused-false}
 use Rattle.promises.proofs.LogSteps.{keep-facts, stored-long, stored-slots}
 use Rattle.promises.proofs.StoredBlocks.{none-stored, one-stored}

@@ -3,19 +3,18 @@
 use mathlib.Core.Path.{_≡_, refl, sym, ap, _∙_, subst}
 use mathlib.Core.Logic.{_⊎_, ⊎-elim}
 use mathlib.Core.Bool.{Bool, true, false, cond}
-use Prim.Native.Nat.{ℕ, zero, suc, _+_, _*_, _-_, _/_, _≤_, _<_}
-use mathlib.Core.List.{List, [], _∷_, _++_}
+use Prim.Native.Nat.{ℕ, _+_, _*_, _-_, _/_, _<_}
+use mathlib.Core.List.{List, [], _++_}
 use native.Mathlib.Omega.{arith}
-use lib.ListN.{length, replicate, length-replicate, getD}
-use lib.Dec.{eqb, leb, ltb}
+use lib.ListN.{length, replicate, length-replicate}
+use lib.Dec.{ltb}
 use borrow.Author.Tests.{le-leb, eq-eqb, lt-ltb, le-ltb}
 use Rattle.area.proofs.Parts.{either, length-part}
 use Rattle.promises.specs.declared.State.{State}
 use Rattle.promises.specs.declared.Answer.{Answer}
 use Rattle.promises.specs.Areas.{pageAt}
-use Rattle.promises.specs.Updates.{Update}
 use Rattle.promises.specs.Blocks.{LogBlock}
-use Rattle.promises.specs.Walk.{Walk, Finding, stops, stands}
+use Rattle.promises.specs.Walk.{Finding, stops, stands}
 use Rattle.promises.specs.Contents.{allZeroState}
 use Rattle.promises.specs.Sound.{sound}
 use Rattle.promises.specs.Format.{formatRefusal, Formats}
@@ -43,7 +42,7 @@ use Rattle.promises.specs.Events.{
   Lent,
   fallen,
 }
-use Rattle.promises.specs.Claim.{entered, cutAt, both, promised, Run, formatted, called, unfit, cut, cutUnfit, Right, Safe, InRange, Claim}
+use Rattle.promises.specs.Claim.{entered, cutAt, both, promised, Run, formatted, called, unfit, cut, cutUnfit, Right, Claim}
 use Rattle.promises.proofs.History.Machine.{lastKeep}
 use Rattle.promises.proofs.History.Views.{viewFrom}
 use Rattle.promises.proofs.History.HalfEnd.{none}
@@ -55,7 +54,7 @@ use Rattle.promises.proofs.Soundness.{all-zero-unsound}
 use Rattle.promises.proofs.Slots.{size-slots, blank-slots}
 use Rattle.promises.proofs.Ranges.{Ranged, ranged}
 use Rattle.promises.proofs.Replies.{no-accept, refused-number, end-refused-number, log-refused-number, accepted-done}
-use Rattle.promises.proofs.Kept.{sizesOf, bookOf, Good}
+use Rattle.promises.proofs.Kept.{Good}
 use Rattle.promises.proofs.QuietCalls.{do-begin, do-describe, do-ending, answer-ending, answer-settling, answer-reading}
 use Rattle.promises.specs.Stored.{storedIn, storedBy}
 use Rattle.promises.proofs.StoredBlocks.{none-stored}

@@ -5,11 +5,10 @@ use Prim.Native.Nat.{ℕ, _+_, _-_}
 use mathlib.Core.Bool.{Bool, true, false, cond}
 use mathlib.Core.List.{List, [], _∷_}
 use native.Mathlib.Omega.{arith}
-use lib.Dec.{eqb}
 use borrow.Author.Tests.{eq-eqb, ne-eqb}
 use Rattle.block.proofs.Tests.{not-passed}
 use Rattle.promises.specs.Blocks.{clean, LogBlock, Slot, unused, damaged, valid}
-use Rattle.promises.specs.Newest.{newest, keepOf, Gathered, missing, blocks, gather, allUnused, endDamaged, endTested, gathered}
+use Rattle.promises.specs.Newest.{newest, keepOf, missing, blocks, gather, allUnused, endDamaged, endTested, gathered}
 
 -- ---- by hand, on four slots
 

@@ -1,12 +1,11 @@
 -- The invariant of a run: log and home hold a history, and a sound state says what the history and the book say.
 -- Assumes nothing.
 use mathlib.Core.Path.{_≡_, refl, sym, ap, _∙_, subst}
-use mathlib.Core.Bool.{Bool, true, false, cond}
+use mathlib.Core.Bool.{true}
 use Prim.Native.Nat.{ℕ, zero, suc, _+_, _*_, _-_, _≤_, _<_}
 use mathlib.Core.List.{List, [], _∷_, _++_}
 use native.Mathlib.Omega.{arith}
-use lib.ListN.{length, take, drop, getD}
-use lib.Dec.{eqb}
+use lib.ListN.{length, getD}
 use borrow.Author.Tests.{eq-eqb, ne-eqb}
 use Rattle.promises.specs.declared.State.{State}
 use Rattle.promises.specs.declared.Cleaning.{Cleaning}
@@ -14,7 +13,7 @@ use Rattle.promises.specs.declared.Cleaning.the-variants.{Idle, First, S
 use Rattle.promises.specs.Areas.{pageAt}
 use Rattle.promises.specs.Updates.{Update, ofPage}
 use Rattle.promises.specs.Blocks.{LogBlock, slotsOf}
-use Rattle.promises.specs.DirtyPages.{DirtyPage, Found, absent, at, lookUp, apply, applyAll}
+use Rattle.promises.specs.DirtyPages.{DirtyPage, Found, lookUp, apply, applyAll}
 use Rattle.promises.specs.Contents.{Contents, contentsOf, dirtyOf, queueOf, listOf}
 use Rattle.promises.specs.LogStep.{idleUnlessNone, cleaningAfter}
 use Rattle.promises.specs.Sound.{sound}
@@ -27,7 +26,7 @@ use Rattle.promises.proofs.History.Sees.{by-eq, Sees}
 use Rattle.promises.proofs.History.WalkStart.{Distinct}
 use Rattle.promises.proofs.History.Tally.{Pages}
 use Rattle.promises.proofs.History.Accepted.{Ups}
-use Rattle.promises.proofs.History.Invariant.{view, Half, Wells, Stage, Alive}
+use Rattle.promises.proofs.History.Invariant.{view, Half, Wells, Stage}
 use Rattle.promises.proofs.History.Whole.{Kept, Runs, UpsQ}
 use Rattle.promises.specs.Book.{Book}
 use Rattle.promises.specs.Events.{Sizes, World}

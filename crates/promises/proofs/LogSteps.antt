@@ -1,26 +1,25 @@
 -- Log step keeps the invariant and answers what the book says.
 -- Assumes nothing.
 use mathlib.Core.Path.{_≡_, refl, sym, ap, _∙_, subst}
-use mathlib.Core.Bool.{Bool, true, false, cond, not, _&&_, _||_}
-use Prim.Native.Nat.{ℕ, zero, suc, _+_, _*_, _-_, _%_, _^_, _≤_, _<_, min}
-use mathlib.Core.List.{List, [], _∷_, _++_, map, append-nil}
+use mathlib.Core.Bool.{true, cond, _&&_}
+use Prim.Native.Nat.{ℕ, _+_, _*_, _-_, _%_, _^_, _≤_, _<_, min}
+use mathlib.Core.List.{List, [], _∷_, _++_, map}
 use native.Mathlib.Omega.{arith}
 use native.Mathlib.Nat.{mod-lt}
-use lib.ListN.{length, take, drop, getD, length-take, length-append}
-use lib.Seq.{getD-append-seam}
-use lib.Dec.{eqb, leb, ltb}
-use borrow.Author.Tests.{leb-true, ltb-true, eqb-true, eqb-false, eq-eqb, ne-eqb, lt-ltb, le-ltb}
+use lib.ListN.{length, take, getD, length-take, length-append}
+use lib.Dec.{eqb, ltb}
+use borrow.Author.Tests.{leb-true, eqb-false, lt-ltb, le-ltb}
 use Rattle.promises.specs.declared.State.{State}
-use Rattle.promises.specs.Areas.{pageAt, withSlot}
-use Rattle.promises.specs.Updates.{Update, put, redo, ofPage}
-use Rattle.promises.specs.Blocks.{Kind, update, commit, clean, LogBlock, written, Slot, unused, valid, slotAt, slotsOf}
-use Rattle.promises.specs.DirtyPages.{DirtyPage, lookUp, keepFromOf, apply, applyAll}
-use Rattle.promises.specs.Contents.{Contents, contentsOf, dirtyOf, groupsOf, grouped, queueOf, listOf, waiting, total}
+use Rattle.promises.specs.Areas.{pageAt}
+use Rattle.promises.specs.Updates.{Update, redo, ofPage}
+use Rattle.promises.specs.Blocks.{update, commit, LogBlock, written, Slot, slotsOf}
+use Rattle.promises.specs.DirtyPages.{lookUp, keepFromOf, applyAll}
+use Rattle.promises.specs.Contents.{dirtyOf, groupsOf, grouped, queueOf, waiting, total}
 use Rattle.promises.specs.Sound.{sound, ofOldest}
-use Rattle.promises.specs.Sums.{blockCount, waitingBlocks}
+use Rattle.promises.specs.Sums.{blockCount}
 use Rattle.promises.specs.Blocks.{stored}
 use Rattle.promises.specs.Sums.{groupStart}
-use Rattle.promises.specs.LogStep.{areasFit, logRefusal, logRefusalOf, updateBlock, commitBlock, UpdateStep, CommitStep, LogSteps}
+use Rattle.promises.specs.LogStep.{areasFit, logRefusal, logRefusalOf, UpdateStep, CommitStep}
 use Rattle.promises.proofs.Changes.{pick-zero, pick-other}
 use Rattle.promises.proofs.History.Machine.{Live, lastKeep}
 use Rattle.promises.proofs.History.Machine as machine
@@ -36,15 +35,15 @@ use Rattle.promises.proofs.History.HalfEnd.{begins-le}
 use Rattle.promises.proofs.History.KeepFrom.{keep-applied}
 use Rattle.promises.proofs.History.Whole.{Kept, Runs, Room, kept-update, kept-commit, count-le}
 use Rattle.promises.specs.Book.{Book, counted, committed, stepped, steppedOver}
-use Rattle.promises.specs.Events.{Sizes, World, Call, logStep, Reply, done, settles, accepts, logAnswered, Logging}
+use Rattle.promises.specs.Events.{Sizes, World, logStep, Reply, done, settles, accepts, logAnswered, Logging}
 use Rattle.promises.specs.Claim.{entered}
 use Rattle.promises.specs.Stored.{newBlock, storedIn}
 use Rattle.promises.proofs.Ranges.{Ranged}
 use Rattle.area.proofs.Parts.{length-splice}
 use Rattle.block.proofs.Facts.{NumberFacts}
 use Rattle.promises.proofs.Slots.{KindFits, slots-store, length-written}
-use Rattle.promises.proofs.SoundFacts.{and-left, and-right, Facts, facts, length-queue}
-use Rattle.promises.proofs.Kept.{sizesOf, bookOf, liveOf, stageOf, Fit, Fits, FitsAll, Lives, Good, fits-updates, fits-at, apply-all-cong, Matches, lives-from, cleaning-after}
+use Rattle.promises.proofs.SoundFacts.{Facts, facts, length-queue}
+use Rattle.promises.proofs.Kept.{sizesOf, bookOf, liveOf, stageOf, Fit, Fits, FitsAll, Lives, Good, fits-updates, fits-at, apply-all-cong, lives-from, cleaning-after}
 use Rattle.promises.proofs.StoredBlocks.{none-stored, one-stored}
 use Rattle.promises.proofs.Replies.{log-refused-false, no-accept}
 
@@ -141,7 +140,7 @@ module _ (z : Sizes) (range : Ranged z) (w : World) (b : Book) {history : List L
       }
 
   -- ---- an update is stored
-  abbrev pub updateAt : List Update → ℕ → LogBlock
+  abbrev updateAt : List Update → ℕ → LogBlock
   updateAt g n = record { kind = update (s .stored + 1) (getD g (s .stored) machine.noUpdate); keepFrom = keepFromOf (n - s .stored) (dirtyOf s (w .frames)); ticket = s .ticket }
 
   abbrev updateLive : Live
@@ -190,7 +189,7 @@ module _ (z : Sizes) (range : Ranged z) (w : World) (b : Book) {history : List L
       })
 
   -- ---- a commit is stored
-  abbrev pub commitAt : List Update → ℕ → LogBlock
+  abbrev commitAt : List Update → ℕ → LogBlock
   commitAt g n = record { kind = commit (length g); keepFrom = keepFromOf (n - s .stored) (dirtyOf s (w .frames)); ticket = s .ticket + 1 }
 
   abbrev commitLive : List Update → List (List Update) → ℕ → Live

@@ -1,49 +1,43 @@
 -- Open is accepted on what a run left, reports m, and keeps the invariant; a refused one is harmless.
 -- Assumes nothing.
 use mathlib.Core.Path.{_≡_, refl, sym, ap, _∙_, subst}
-use mathlib.Core.Bool.{Bool, true, false, cond, not, _&&_, _||_}
-use Prim.Native.Nat.{ℕ, zero, suc, _+_, _*_, _-_, _/_, _%_, _≤_, _<_}
-use mathlib.Core.List.{List, [], _∷_, _++_}
+use mathlib.Core.Bool.{true}
+use Prim.Native.Nat.{ℕ, zero, suc, _+_, _*_, _-_, _<_}
+use mathlib.Core.List.{List, [], _∷_}
 use native.Mathlib.Omega.{arith}
-use lib.ListN.{length, take, drop, getD}
-use lib.Dec.{eqb, leb, ltb}
+use lib.ListN.{length, drop}
+use lib.Dec.{leb}
 use borrow.Author.Tests.{le-leb, eq-eqb, lt-ltb}
-use Rattle.promises.specs.declared.State.{State}
 use Rattle.promises.specs.Areas.{pageAt}
-use Rattle.promises.specs.Updates.{Update}
-use Rattle.promises.specs.Blocks.{Kind, update, commit, clean, LogBlock, Slot, unused, valid, slotsOf}
-use Rattle.promises.specs.DirtyPages.{DirtyPage, lookUp, applyAll, keepFromOf}
-use Rattle.promises.specs.Newest.{newest, keepIn, keepOf, Gathered, blocks, gathered}
-use Rattle.promises.specs.Walk.{Walk, believed, startWith, walkBlock, inOrder, framed, Finding, stops, stands, ending, walkFrom, walkGathered, finding}
-use Rattle.promises.specs.Contents.{Contents, contentsOf, dirtyOf, allZeroState}
-use Rattle.promises.specs.Sound.{sound}
-use Rattle.promises.specs.Open.{openFinding, OpenStops, OpenStands, Opens}
+use Rattle.promises.specs.Blocks.{Kind, update, commit, clean, LogBlock, Slot, slotsOf}
+use Rattle.promises.specs.DirtyPages.{DirtyPage, applyAll}
+use Rattle.promises.specs.Newest.{newest, keepOf}
+use Rattle.promises.specs.Walk.{Walk, believed, startWith, walkBlock, inOrder, framed, stands, ending, walkFrom, walkGathered, finding}
+use Rattle.promises.specs.Contents.{Contents}
+use Rattle.promises.specs.Open.{openFinding, OpenStands}
 use Rattle.promises.specs.Read.{readRefusal, readRefusalOf}
-use Rattle.promises.proofs.History.Machine.{Live, lastKeep, walk}
+use Rattle.promises.proofs.History.Machine.{lastKeep, walk}
 use Rattle.promises.proofs.History.Views.{noView}
 use Rattle.promises.proofs.History.Stands.{blockStands, allStand}
 use Rattle.promises.proofs.History.Ledger as ledger
 use Rattle.promises.proofs.History.Sizes as full
-use Rattle.promises.proofs.History.Sees.{by-eq}
 use Rattle.promises.proofs.History.WalkStart.{BeginsAt, commits, isCommit}
 use Rattle.promises.proofs.History.Invariant.{view, Keep, empty, from}
-use Rattle.promises.proofs.History.Ring.{Holds}
-use Rattle.promises.proofs.History.Accepted.{Ups, Views, Formed, Right, after, step-updates, formed-append}
+use Rattle.promises.proofs.History.Accepted.{Ups, Views, Formed, after, step-updates, formed-append}
 use Rattle.promises.proofs.History.Recovered.{rest}
 use Rattle.promises.proofs.History.HalfEnd.{begins-le}
-use Rattle.promises.proofs.History.Whole.{Kept, Runs, same-book}
+use Rattle.promises.proofs.History.Whole.{same-book}
 use Rattle.promises.proofs.History.Reopened.{last-keepFrom, newest-is, gathered-is, okay, fitting, reports, running}
 use Rattle.promises.specs.Book.{Book, gone}
-use Rattle.promises.specs.Events.{Sizes, World, Reply, refuses, settles, shows, accepts, openAnswered, readAnswered, Opening, Reading}
+use Rattle.promises.specs.Events.{Sizes, World, Reply, settles, shows, accepts, openAnswered, Opening, Reading}
 use Rattle.promises.proofs.Soundness.{and-both}
 use Rattle.promises.proofs.Ranges.{Ranged}
 use Rattle.promises.proofs.OpenFindings.{open-finds}
-use Rattle.promises.proofs.Kept.{sizesOf, bookOf, Lives, Good, apply-all-cong, Matches, lives-from}
+use Rattle.promises.proofs.Kept.{sizesOf, bookOf, Good, apply-all-cong, lives-from}
 use Rattle.promises.proofs.QuietCalls.{answer-reading}
-use Rattle.promises.proofs.Slots.{size-slots}
 
 -- ---- a walk without a refusal
-pub ok-parts : (F : ℕ) (home : ℕ → List ℕ) (k : Kind) (t : ℕ) (v : Walk) → blockStands F home k t v ≡ true → (inOrder k t v ≡ true) × (framed F home k v ≡ true)
+ok-parts : (F : ℕ) (home : ℕ → List ℕ) (k : Kind) (t : ℕ) (v : Walk) → blockStands F home k t v ≡ true → (inOrder k t v ≡ true) × (framed F home k v ≡ true)
 unfolding blockStands inOrder framed
 ok-parts F home (update i u) t v e = (e, refl)
 ok-parts F home (commit n) t v e = and-both _ (leb (length (applyAll (v .start) home (v .group) (v .dirtyPages))) F) e
@@ -58,13 +52,13 @@ walk-ok N F next home j (b ∷ bs) v e =
     rw (d .0, d .1) (walk-ok N F next home (suc j) bs (walkBlock home j (b .kind) v) (c .1))
 
 -- ---- the walk reads home only at pages that are there
-pub framed-cong : (P F : ℕ) (home home′ : ℕ → List ℕ) (k : Kind) (v : Walk) → ((p : ℕ) → p < P → home p ≡ home′ p) → Ups P (v .group) → framed F home k v ≡ framed F home′ k v
+framed-cong : (P F : ℕ) (home home′ : ℕ → List ℕ) (k : Kind) (v : Walk) → ((p : ℕ) → p < P → home p ≡ home′ p) → Ups P (v .group) → framed F home k v ≡ framed F home′ k v
 unfolding framed
 framed-cong P F home home′ (update i u) v h l = refl
 framed-cong P F home home′ (commit n) v h l = ap (λ (x : List DirtyPage). leb (length x) F) (apply-all-cong P (v .start) home home′ (v .group) (v .dirtyPages) h l)
 framed-cong P F home home′ (clean q) v h l = refl
 
-pub block-cong : (P j : ℕ) (home home′ : ℕ → List ℕ) (k : Kind) (v : Walk) → ((p : ℕ) → p < P → home p ≡ home′ p) → Ups P (v .group) → walkBlock home j k v ≡ walkBlock home′ j k v
+block-cong : (P j : ℕ) (home home′ : ℕ → List ℕ) (k : Kind) (v : Walk) → ((p : ℕ) → p < P → home p ≡ home′ p) → Ups P (v .group) → walkBlock home j k v ≡ walkBlock home′ j k v
 unfolding walkBlock
 block-cong P j home home′ (update i u) v h l = refl
 block-cong P j home home′ (commit n) v h l = ap (λ (x : List DirtyPage). record { group = []; start = 0; ticket = v .ticket + 1; dirtyPages = x }) (apply-all-cong P (v .start) home home′ (v .group) (v .dirtyPages) h l)

@@ -1,27 +1,22 @@
 -- Begin, Describe, End, Settled and Read keep the invariant and answer what the book says.
 -- Assumes nothing.
-use denote.Ref.{RefT, now}
+use denote.Ref.{now}
 use mathlib.Core.Path.{_≡_, refl, sym, ap, _∙_, subst}
-use mathlib.Core.Bool.{Bool, true, false, cond, not, _&&_, _||_}
-use Prim.Native.Nat.{ℕ, zero, _+_, _*_, _-_, _^_, _≤_, _<_}
+use mathlib.Core.Bool.{Bool, true, false, cond, _&&_}
+use Prim.Native.Nat.{ℕ, _+_, _*_, _-_, _<_}
 use mathlib.Core.List.{List, [], _∷_, _++_}
 use native.Mathlib.Omega.{arith}
-use lib.ListN.{length, take, getD, length-append}
+use lib.ListN.{length, length-append}
 use lib.Dec.{eqb, leb, ltb}
-use borrow.Author.Tests.{leb-true, ltb-true, eqb-true, eqb-false}
+use borrow.Author.Tests.{leb-true, ltb-true, eqb-false}
 use Rattle.promises.specs.declared.State.{State}
-use Rattle.promises.specs.declared.Staged.{Staged}
-use Rattle.promises.specs.declared.Standing.{Standing}
 use Rattle.promises.specs.declared.Standing.the-variants.{Yes, No}
-use Rattle.promises.specs.Areas.{pageAt}
 use Rattle.promises.specs.Updates.{Update}
-use Rattle.promises.specs.DirtyPages.{lookUp, shown}
 use Rattle.promises.specs.Blocks.{LogBlock}
-use Rattle.promises.specs.Contents.{Contents, contentsOf, dirtyOf, queueOf, total}
+use Rattle.promises.specs.Contents.{queueOf}
 use Rattle.promises.specs.Sound.{sound}
 use Rattle.block.specs.Legal.{legalPlace}
-use Rattle.promises.specs.Leaves.{Leaves}
-use Rattle.promises.specs.Begin.{beginRefusal, beginInRange}
+use Rattle.promises.specs.Begin.{beginRefusal}
 use Rattle.promises.specs.Describe.{describeRefusal}
 use Rattle.promises.specs.End.{endRefusal}
 use Rattle.promises.specs.Settled.{settledRefusal}
@@ -33,11 +28,11 @@ use Rattle.promises.proofs.History.Sees.{by-eq}
 use Rattle.promises.proofs.History.Recovered.{alive-end, shown-right}
 use Rattle.promises.proofs.History.Whole.{Runs, same-book, places-append}
 use Rattle.promises.specs.Book.{Book, begun, described, ended, ticketGiven}
-use Rattle.promises.specs.Events.{Sizes, World, withState, Call, begin, describe, ending, reading, settling, Reply, refuses, done, gives, shows, says, accepts, endAnswered, standingAnswered, Beginning, Describing, Ending, Reading, Settling}
-use Rattle.promises.specs.Claim.{entered, Right}
+use Rattle.promises.specs.Events.{Sizes, World, withState, begin, describe, ending, Reply, gives, shows, says, accepts, endAnswered, standingAnswered, Beginning, Describing, Ending, Reading, Settling}
+use Rattle.promises.specs.Claim.{entered}
 use Rattle.promises.proofs.Replies.{refused-false, end-refused-false, standing-refused-false, no-accept, read-accepted-reply, read-refused-reply}
 use Rattle.promises.proofs.SoundFacts.{and-left, and-right, Facts, facts, length-list, length-queue}
-use Rattle.promises.proofs.Kept.{sizesOf, bookOf, liveOf, Fit, Fits, FitsAll, Lives, Good, fits-legal, fits-updates, fits-more, all-more, Matches, lives-from}
+use Rattle.promises.proofs.Kept.{sizesOf, bookOf, liveOf, Fit, Lives, Good, fits-legal, fits-updates, fits-more, all-more, lives-from}
 
 -- ---- Begin
 module _ (z : Sizes) (w : World) (b : Book) {history : List LogBlock} (g : Good z w b history) where

@@ -8,7 +8,7 @@ use Rattle.promises.specs.Format.{Formats}
 use Rattle.promises.specs.Book.{Book}
 use Rattle.promises.specs.Blocks.{LogBlock}
 use Rattle.promises.specs.Events.{Sizes, World, Call, opening, reading, Reply, accepts, Step}
-use Rattle.promises.specs.Claim.{Steps, promised, Run, formatted, called, unfit, cut, cutUnfit, both, Safe, InRange, Claim}
+use Rattle.promises.specs.Claim.{Steps, promised, Run, formatted, called, unfit, cut, cutUnfit, both, Claim}
 use Rattle.promises.specs.Stored.{storedIn, storedBy}
 use Rattle.promises.proofs.Demand3.{demand-three}
 

@@ -1,8 +1,8 @@
 -- A block that is written is read back from its slot, and the other slots stay.
 -- Assumes nothing.
 use mathlib.Core.Path.{_≡_, refl, sym, ap, _∙_}
-use mathlib.Core.Bool.{Bool, true}
-use Prim.Native.Nat.{ℕ, zero, suc, _+_, _*_, _-_, _%_, _^_, _≤_, _<_}
+use mathlib.Core.Bool.{true}
+use Prim.Native.Nat.{ℕ, zero, suc, _+_, _*_, _-_, _%_, _≤_, _<_}
 use mathlib.Core.List.{List, [], _∷_}
 use native.Mathlib.Omega.{arith}
 use native.Mathlib.Nat.{mod-lt}
@@ -19,26 +19,7 @@ use Rattle.block.proofs.Lengths.{length-layout}
 use Rattle.block.proofs.Facts.{NumberFacts, UpdateFacts, CommitFacts, update-legal, commit-legal, clean-legal}
 use Rattle.block.proofs.ReadBack.{read-back, new-back, zero-unused}
 use Rattle.promises.specs.Areas.{slotBytes, withSlot}
-use Rattle.promises.specs.Updates.{Update}
-use Rattle.promises.specs.Blocks.{
-  Kind,
-  update,
-  commit,
-  clean,
-  LogBlock,
-  fieldsOf,
-  carried,
-  written,
-  Slot,
-  unused,
-  damaged,
-  valid,
-  kindIn,
-  slotIn,
-  slotAt,
-  slotsFrom,
-  slotsOf,
-}
+use Rattle.promises.specs.Blocks.{Kind, update, commit, clean, LogBlock, fieldsOf, carried, written, Slot, unused, valid, kindIn, slotIn, slotAt, slotsFrom, slotsOf}
 use Rattle.promises.proofs.History.Stored.{store}
 use Rattle.promises.proofs.History.Sees.{by-eq}
 

@@ -1,6 +1,5 @@
 -- The blocks that a run stored, in order: block s at place s - 1. Each is read off its slot once it is stored.
 -- Assumes nothing.
-use Prim.Native.Nat.{ℕ}
 use mathlib.Core.Bool.{Bool, true, false, cond}
 use mathlib.Core.List.{List, [], _∷_, _++_}
 use Rattle.block.specs.Legal.{slotOf}

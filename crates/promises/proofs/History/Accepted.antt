@@ -1,26 +1,24 @@
 -- Open's walk meets no refusal 8 or 9 on a history that the machine wrote.
-use mathlib.Core.Path.{_≡_, refl, sym, ap, _∙_, subst, subst₂}
+use mathlib.Core.Path.{_≡_, refl, sym, ap, _∙_, subst₂}
 use mathlib.Core.Logic.{_⊎_, inl, inr}
-use Prim.Native.Nat.{ℕ, zero, suc, _+_, _-_, _≤_, _<_}
+use Prim.Native.Nat.{ℕ, suc, _+_, _-_, _≤_, _<_}
 use native.Mathlib.Omega.{arith}
 use native.Mathlib.Nat.{zero-add, add-zero}
 use mathlib.Core.Bool.{Bool, true, false, cond, _&&_, _||_}
 use mathlib.Core.List.{List, [], _∷_, _++_}
-use lib.ListN.{length, length-append}
-use lib.Dec.{eqb, ltb, leb}
+use lib.ListN.{length}
+use lib.Dec.{eqb, ltb}
 use borrow.Author.Tests.{eq-eqb, ne-eqb, lt-ltb, le-leb}
-use Rattle.promises.specs.Updates.{Update, put}
-use Rattle.promises.proofs.History.Views.{Page, tidy, dirty, View, noView, committedOver, viewBlock, viewFrom, Begins, first, cleans}
+use Rattle.promises.specs.Updates.{Update}
+use Rattle.promises.proofs.History.Views.{Page, tidy, View, noView, viewBlock, viewFrom, Begins, first, cleans}
 use Rattle.promises.specs.Blocks.{Kind, update, commit, clean, LogBlock}
-use Rattle.promises.specs.Updates.{ofPage}
-use Rattle.promises.proofs.History.Machine.{walk}
-use Rattle.promises.specs.DirtyPages.{DirtyPage, Found, absent, at, lookUp, apply, applyAll, without}
+use Rattle.promises.specs.DirtyPages.{DirtyPage, at, lookUp, apply, applyAll, without}
 use Rattle.promises.specs.Walk.{Walk, walkBlock}
 use Rattle.promises.proofs.History.Stands.{blockStands, allStand}
-use Rattle.promises.proofs.History.Since.{Same, same, stale, Sim, sim-step, sim-begin, Below}
-use Rattle.promises.proofs.History.Sees.{Sees, clear, held, by-eq, Tells, tells-step, sees-all}
+use Rattle.promises.proofs.History.Since.{Same, Sim, sim-step, sim-begin, Below}
+use Rattle.promises.proofs.History.Sees.{Sees, clear, by-eq, Tells, tells-step}
 use Rattle.promises.proofs.History.WalkStart.{Distinct, distinct-all, distinct-without, isCommit, commits}
-use Rattle.promises.proofs.History.Tally.{tally, tally-mono, tally-same, tally-lookUp, here, Pages, isDirty, sees-here, same-le}
+use Rattle.promises.proofs.History.Tally.{tally, tally-mono, tally-lookUp, here, Pages, isDirty, sees-here, same-le}
 
 abbrev pub Ups : ℕ → List Update → Type 0
 Ups P [] = Unit {0}

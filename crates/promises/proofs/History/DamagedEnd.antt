@@ -4,7 +4,7 @@ use mathlib.Core.Logic.{_⊎_, inl, inr}
 use Prim.Native.Nat.{ℕ, zero, suc, _+_, _-_, _%_, _≤_, _<_}
 use native.Mathlib.Omega.{arith}
 use native.Mathlib.Nat.{mod-lt}
-use mathlib.Core.Bool.{Bool, true, false, _&&_}
+use mathlib.Core.Bool.{true, false, and-false}
 use mathlib.Core.List.{List, [], _∷_}
 use lib.ListN.{length, getD, set}
 use lib.Seq.{getD-set-same, getD-set-other}
@@ -19,11 +19,7 @@ allUnused-some : (log : List Slot) (i : ℕ) → isUnused (getD log i unused) �
 unfolding allUnused
 allUnused-some [] i e = cc
 allUnused-some (x ∷ log) zero e = rw e refl
-allUnused-some (x ∷ log) (suc i) e = rw (allUnused-some log i e) (go (isUnused x))
-  where
-    go : (c : Bool) → (c && false) ≡ false
-    go true = refl
-    go false = refl
+allUnused-some (x ∷ log) (suc i) e = rw (allUnused-some log i e) (and-false (isUnused x))
 
 module _ (N base : ℕ) (log : List Slot) (history : List LogBlock) (two : 2 ≤ N) (h : Holds N base log history) (some : base ≤ length history) where
   abbrev m : ℕ

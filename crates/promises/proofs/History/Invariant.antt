@@ -1,24 +1,24 @@
 -- The invariant, and that each store keeps it.
 use mathlib.Core.Path.{_≡_, refl, sym, ap, _∙_, subst}
-use Prim.Native.Nat.{ℕ, zero, suc, _+_, _-_, _≤_, _<_, min}
+use Prim.Native.Nat.{ℕ, _+_, _-_, _≤_, _<_}
 use native.Mathlib.Omega.{arith}
 use native.Mathlib.Numerals.{add-one}
 use mathlib.Core.Bool.{Bool, true, false, cond}
-use mathlib.Core.List.{List, [], _∷_, _++_, append-assoc}
+use mathlib.Core.List.{List, [], _∷_, _++_}
 use lib.ListN.{length, take, drop, getD, length-append, take-append-drop, length-take, length-drop}
-use lib.Seq.{take-suc, take-all, take-append-le, take-take, take-at, length-take-le}
-use lib.Dec.{eqb, ltb}
-use borrow.Author.Tests.{eq-eqb, ne-eqb, lt-ltb, le-ltb}
+use lib.Seq.{take-suc, take-all, take-at, length-take-le}
+use lib.Dec.{eqb}
+use borrow.Author.Tests.{eq-eqb, ne-eqb}
 use Rattle.promises.proofs.History.Legal.{Legal}
 use Rattle.promises.specs.Updates.{Update, put, redo}
 use Rattle.promises.proofs.History.Views.{Page, tidy, dirty, updatesOf, View, noView, committedOver, viewBlock, viewFrom, Begins, first, cleans}
 use Rattle.promises.specs.Blocks.{Kind, update, commit, clean, LogBlock}
 use Rattle.promises.specs.Updates.{ofPage}
 use Rattle.promises.proofs.History.Machine.{lastKeep, Live, World, State, down, up, Cleaning, idle, second, third, noUpdate, updateLogged, commitLogged, cleaningAfter, idleUnlessNone, setPage, halfStored, cleanLogged}
-use Rattle.promises.specs.DirtyPages.{DirtyPage, Found, absent, at, lookUp, apply, applyAll, without, keepFromOf}
+use Rattle.promises.specs.DirtyPages.{DirtyPage, Found, absent, at, lookUp, without, keepFromOf}
 use Rattle.promises.proofs.History.Ledger.{Book}
 use Rattle.promises.proofs.History.OldOrNew.{Mix, redo-mixed, mixed-front, mixed-back, mixed-length}
-use Rattle.promises.proofs.History.Since.{AtLeast, Below, track-append, from-keepFrom}
+use Rattle.promises.proofs.History.Since.{AtLeast, track-append}
 use Rattle.promises.proofs.History.Sees.{Sees, clear, held, by-eq, redo-append, sees-all, sees-without}
 use Rattle.promises.proofs.History.WalkStart.{BeginsAt, begins-append, begins-last, Distinct, Good, keepFrom-begins, keepFrom-le, keepFrom-least, distinct-all, distinct-without, lastKeep-snoc, isCommit}
 

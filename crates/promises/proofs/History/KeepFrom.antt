@@ -7,7 +7,7 @@ use mathlib.Core.List.{List, [], _∷_}
 use lib.ListN.{length}
 use lib.Seq.{length-take-le}
 use lib.Dec.{eqb}
-use borrow.Author.Tests.{eq-eqb, ne-eqb}
+use borrow.Author.Tests.{ne-eqb}
 use Rattle.promises.specs.Blocks.{LogBlock}
 use Rattle.promises.specs.Updates.{Update, put}
 use Rattle.promises.specs.DirtyPages.{DirtyPage, Found, absent, at, lookUp, apply, applyAll, keepFromOf}
@@ -21,7 +21,7 @@ use Rattle.promises.proofs.History.Tally.{Pages, lookUp-page}
 use Rattle.promises.proofs.History.HalfEnd.{HalfEnd, none, some, begins-le}
 
 -- all first groups are at least k
-pub keepFrom-ge : (k d : ℕ) (es : List DirtyPage) → Distinct es → ((p : ℕ) (e : DirtyPage) → lookUp p es ≡ at e → k ≤ e .first) → k ≤ d → k ≤ keepFromOf d es
+keepFrom-ge : (k d : ℕ) (es : List DirtyPage) → Distinct es → ((p : ℕ) (e : DirtyPage) → lookUp p es ≡ at e → k ≤ e .first) → k ≤ d → k ≤ keepFromOf d es
 unfolding keepFromOf lookUp
 keepFrom-ge k d [] u g h = h
 keepFrom-ge k d (e ∷ es) u g h = min-or (λ n. k ≤ n) (e .first) (keepFromOf d es) (g (e .page) e (lookUp-head e es))
@@ -29,12 +29,12 @@ keepFrom-ge k d (e ∷ es) u g h = min-or (λ n. k ≤ n) (e .first) (keepFromOf
     (λ y. let c : _≡_ {A = Found} absent (at x) = sym (u .0) ∙ ap (λ (n : ℕ). lookUp n es) (sym y) ∙ q in let n : _≡_ {A = ℕ} 0 1 = cc in absurd (omega arith))
     (λ n. g p x (simp (ne-eqb _ _ n) q))) h)
 
-pub first-ge : {k : ℕ} {h : List ℕ} {x : Found} {c : Page} → AtLeast k c → Sees h x c → (e : DirtyPage) → x ≡ at e → k ≤ e .first
+first-ge : {k : ℕ} {h : List ℕ} {x : Found} {c : Page} → AtLeast k c → Sees h x c → (e : DirtyPage) → x ≡ at e → k ≤ e .first
 first-ge a clear e q = let n : _≡_ {A = ℕ} 0 1 = cc in absurd (omega arith)
 first-ge {k} (AtLeast.some g) (held {e = y} f) e q = let s : y ≡ e = cc in subst (λ (t : DirtyPage). k ≤ t .first) s g
 
 -- ---- keep-from, of views: the smallest first group over the pages below P, and the block's own number
-abbrev pub firstIn : ℕ → Page → ℕ
+abbrev firstIn : ℕ → Page → ℕ
 firstIn own tidy = own
 firstIn own (dirty f us) = f
 
@@ -93,12 +93,9 @@ keep-applied start home (u ∷ us) es = keep-applied start home us (apply start 
 
 -- ---- keep-from along a history
 
-pub small : {history : List LogBlock} → history ≡ [] → lastKeep history ≤ length history + 1
-unfolding lastKeep
-small e = rw e (omega arith)
-
 pub keep-le : (history : List LogBlock) (m : ℕ) → Keep history m → lastKeep history ≤ length history + 1
-keep-le history m (empty e z) = small e
+unfolding lastKeep
+keep-le history m (empty e z) = rw e (omega arith)
 keep-le history m (from g) = omega (arith, begins-le g)
 
 -- the oldest queued group starts at keep-from or later

@@ -1,37 +1,30 @@
 -- Open is accepted on what the store wrote, and finds the book's pages.
-use mathlib.Core.Path.{_≡_, refl, sym, ap, _∙_, subst, subst₂}
-use Prim.Native.Nat.{ℕ, zero, suc, _+_, _-_, _*_, _≤_, _<_, min, _%_}
+use mathlib.Core.Path.{_≡_, refl, ap, _∙_, subst}
+use Prim.Native.Nat.{ℕ, zero, suc, _+_, _-_, _≤_, _<_}
 use native.Mathlib.Omega.{arith}
-use native.Mathlib.Nat.{zero-add, add-zero}
-use mathlib.Core.Bool.{Bool, true, false, cond, _&&_, _||_}
-use mathlib.Core.List.{List, [], _∷_, _++_}
-use lib.ListN.{length, take, drop, getD, length-append, length-drop}
+use mathlib.Core.Bool.{true}
+use mathlib.Core.List.{List, [], _∷_}
+use lib.ListN.{length, drop, getD, length-drop}
 use lib.Seq.{drop-nil}
-use lib.Dec.{eqb, ltb, leb}
-use borrow.Author.Tests.{eq-eqb, ne-eqb, le-leb}
-use Rattle.promises.proofs.History.Legal.{Legal}
-use Rattle.promises.specs.Updates.{Update, redo}
-use Rattle.promises.proofs.History.Views.{Page, tidy, dirty, updatesOf, View, noView, committedOver, viewBlock, viewFrom, Begins}
-use Rattle.promises.specs.Blocks.{Kind, update, commit, clean, LogBlock, noBlock}
-use Rattle.promises.specs.Updates.{ofPage}
-use Rattle.promises.proofs.History.Machine.{lastKeep, Live, World, down, walk, recover}
-use Rattle.promises.specs.DirtyPages.{DirtyPage, Found, absent, at, lookUp, keepFromOf}
+use Rattle.promises.proofs.History.Views.{noView}
+use Rattle.promises.specs.Blocks.{LogBlock, noBlock}
+use Rattle.promises.proofs.History.Machine.{lastKeep, down, walk, recover}
+use Rattle.promises.specs.DirtyPages.{keepFromOf}
 use Rattle.promises.specs.Walk.{Walk, walkBlock, believed}
 use Rattle.promises.proofs.History.Ledger.{Book, gone}
-use Rattle.promises.specs.Blocks.{Slot, unused, valid}
-use Rattle.promises.specs.Newest.{sequenceIn, newest, Gathered, blocks, gathered}
+use Rattle.promises.specs.Blocks.{Slot, unused}
+use Rattle.promises.specs.Newest.{newest, blocks, gathered}
 use Rattle.promises.proofs.History.Stands.{allStand}
 use Rattle.promises.proofs.History.Sizes.{Sizes, opened}
-use Rattle.promises.proofs.History.Since.{AtLeast, Below, below-track}
-use Rattle.promises.proofs.History.Sees.{Sees, clear, held, by-eq}
-use Rattle.promises.proofs.History.WalkStart.{BeginsAt, commits, isCommit, Distinct, min-or, lookUp-head}
-use Rattle.promises.proofs.History.Invariant.{view, Disk, Keep, empty, from, Alive}
+use Rattle.promises.proofs.History.Since.{Below, below-track}
+use Rattle.promises.proofs.History.WalkStart.{commits, isCommit}
+use Rattle.promises.proofs.History.Invariant.{view, Keep, empty, from, Alive}
 use Rattle.promises.proofs.History.Ring.{Holds, gathered-none, gathered-history, newest-le, past-le, newest-history}
-use Rattle.promises.proofs.History.Tally.{tally, Pages, tally-zero}
-use Rattle.promises.proofs.History.Accepted.{formed-cap, Ups, Views, after, Formed, formed-append, ok-from, walkAt, step-updates, step-pages}
+use Rattle.promises.proofs.History.Tally.{tally, Pages}
+use Rattle.promises.proofs.History.Accepted.{Ups, Views, after, Formed, formed-append, ok-from, walkAt, step-updates, step-pages}
 use Rattle.promises.proofs.History.Recovered.{invariant-open, rest}
 use Rattle.promises.proofs.History.HalfEnd.{begins-le}
-use Rattle.promises.proofs.History.KeepFrom.{keepFrom-ge, first-ge, small}
+use Rattle.promises.proofs.History.KeepFrom.{keep-le, keep-grows}
 use Rattle.promises.proofs.History.Whole.{Kept, Runs, dirtyOf, count-dirty}
 
 pub last-keepFrom : (history : List LogBlock) → 0 < length history → getD history (length history - 1) noBlock .keepFrom ≡ lastKeep history
@@ -127,13 +120,9 @@ module _ (z : Sizes) (log : List Slot) (home : ℕ → List ℕ) (b : Book) (his
   fitting =
       let a : Alive history home (recover home history) (gone b) = alive-now in
       let cd : tally (z .P) (dirtyOf history) ≡ length (vw .dirtyPages) = count-dirty z home (gone b) history (recover home history) a pages-now in
-      let kl : kf ≤ length history + 1 = kf-le (k .disk .keepFrom) in
-      let o : kf ≤ keepFromOf (length history + 1) (vw .dirtyPages) = keepFrom-ge kf (length history + 1) (vw .dirtyPages) (a .distinct) (λ p e q. first-ge (k .disk .least p) (a .sees p) e q) kl in
+      let o : kf ≤ keepFromOf (length history + 1) (vw .dirtyPages) =
+      keep-grows history home (b .pages) (b .m) (length history + 1) (vw .dirtyPages) (k .disk) (a .distinct) (a .sees) (keep-le history (b .m) (k .disk .keepFrom)) in
       omega (arith, k .roomy, cd, o)
-    where
-      kf-le : Keep history (b .m) → lastKeep history ≤ length history + 1
-      kf-le (empty e m) = small e
-      kf-le (from g) = omega (arith, begins-le g)
 
   pub reports : vw .ticket ≡ b .m
   unfolding recover

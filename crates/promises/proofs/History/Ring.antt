@@ -1,18 +1,17 @@
 -- The slots hold the newest N blocks of the history; Open finds what it needs.
-use mathlib.Core.Path.{_≡_, refl, sym, ap, _∙_, subst}
-use Prim.Native.Nat.{ℕ, zero, suc, _+_, _-_, _*_, _/_, _%_, _≤_, _<_, max}
+use mathlib.Core.Path.{_≡_, refl, sym, ap, _∙_}
+use Prim.Native.Nat.{ℕ, zero, suc, _+_, _-_, _/_, _%_, _≤_, _<_}
 use native.Mathlib.Omega.{arith}
 use native.Mathlib.Nat.{mod-lt, div-add-mod', mul-le-mul-right, suc-mul}
 use native.Mathlib.Decide.{decLe}
-use mathlib.Core.Bool.{Bool, true, false, cond, _&&_}
+use mathlib.Core.Bool.{true, false}
 use mathlib.Core.List.{List, [], _∷_, _++_}
-use lib.ListN.{length, getD, set, take, drop, length-append, length-set, List·getD-append}
+use lib.ListN.{length, getD, drop, length-append, length-set, List·getD-append}
 use lib.Seq.{getD-set-same, getD-set-other, getD-append-seam, drop-cons, drop-length}
-use lib.Dec.{eqb}
-use borrow.Author.Tests.{eq-eqb, ne-eqb}
+use borrow.Author.Tests.{eq-eqb}
 use Rattle.promises.specs.Blocks.{LogBlock, noBlock, Slot, unused, damaged, valid}
 use Rattle.promises.proofs.History.Stored.{store}
-use Rattle.promises.specs.Newest.{sequenceIn, newest, blocks, gather, keepIn, keepOf, isUnused, allUnused, isDamaged, endTested, gathered}
+use Rattle.promises.specs.Newest.{sequenceIn, newest, blocks, gather, keepIn, keepOf, allUnused, isDamaged, endTested, gathered}
 use Rattle.promises.proofs.Gathered.{gathered-fresh, gathered-from, end-whole}
 use Rattle.promises.proofs.History.Sees.{by-eq}
 

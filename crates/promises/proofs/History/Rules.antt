@@ -1,6 +1,6 @@
 -- What every block of a history obeys: it stands where it may, its keep-from is the one that the layout's rule gives, and it leaves room.
 -- The rule is said of the pages' views, not of anybody's list of dirty pages.
-use mathlib.Core.Path.{_≡_, refl, sym, ap, _∙_, subst₂}
+use mathlib.Core.Path.{_≡_, sym, ap, _∙_, subst₂}
 use Prim.Native.Nat.{ℕ, _+_, _-_, _≤_, _<_}
 use native.Mathlib.Omega.{arith}
 use mathlib.Core.Bool.{cond}

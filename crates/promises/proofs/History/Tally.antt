@@ -1,13 +1,12 @@
 -- How many pages are dirty: the list's length is a count over the pages, and a count is monotone.
-use mathlib.Core.Path.{_≡_, refl, sym, ap, _∙_, subst}
+use mathlib.Core.Path.{_≡_, refl, _∙_}
 use Prim.Native.Nat.{ℕ, zero, suc, _+_, _-_, _≤_, _<_}
 use native.Mathlib.Omega.{arith}
-use mathlib.Core.Bool.{Bool, true, false, cond}
-use mathlib.Core.List.{List, [], _∷_, _++_}
+use mathlib.Core.Bool.{Bool, true, false}
+use mathlib.Core.List.{List, [], _∷_}
 use lib.ListN.{length}
 use lib.Dec.{eqb}
 use borrow.Author.Tests.{eq-eqb, ne-eqb}
-use Rattle.promises.specs.Updates.{Update}
 use Rattle.promises.proofs.History.Views.{Page, tidy, dirty}
 use Rattle.promises.specs.DirtyPages.{DirtyPage, Found, absent, at, lookUp}
 use Rattle.promises.proofs.History.Since.{Same, same, stale}

@@ -1,35 +1,32 @@
 -- The invariant of the store over slots: a ghost history.
-use mathlib.Core.Path.{_≡_, refl, sym, ap, _∙_, subst, subst₂}
+use mathlib.Core.Path.{_≡_, refl, sym, ap, _∙_, subst}
 use mathlib.Core.Logic.{_⊎_, inl, inr}
-use Prim.Native.Nat.{ℕ, zero, suc, _+_, _-_, _*_, _≤_, _<_, min}
+use Prim.Native.Nat.{ℕ, zero, suc, _+_, _-_, _≤_, _<_}
 use native.Mathlib.Omega.{arith}
-use native.Mathlib.Nat.{zero-add, add-zero}
-use mathlib.Core.Bool.{Bool, true, false, cond, _&&_, _||_}
+use mathlib.Core.Bool.{cond}
 use mathlib.Core.List.{List, [], _∷_, _++_}
-use lib.ListN.{length, take, drop, getD, length-append, length-take}
+use lib.ListN.{length, getD, length-append}
 use lib.Seq.{length-take-le}
-use lib.Dec.{eqb, ltb, leb}
-use borrow.Author.Tests.{eq-eqb, ne-eqb, lt-ltb, le-ltb, le-leb, lt-leb, leb-true}
-use Rattle.promises.proofs.History.Legal.{Legal}
-use Rattle.promises.specs.Updates.{Update, redo}
-use Rattle.promises.proofs.History.Views.{Page, tidy, dirty, updatesOf, View, noView, committedOver, viewBlock, viewFrom, Begins}
-use Rattle.promises.specs.Blocks.{Kind, update, commit, clean, LogBlock}
-use Rattle.promises.specs.Updates.{ofPage}
-use Rattle.promises.proofs.History.Machine.{lastKeep, Live, World, State, down, up, Cleaning, idle, second, third, noUpdate, updateLogged, commitLogged, cleaningAfter, setPage, cleanLogged, halfStored}
-use Rattle.promises.specs.DirtyPages.{DirtyPage, Found, absent, at, lookUp, apply, applyAll, without, keepFromOf}
+use lib.Dec.{eqb}
+use borrow.Author.Tests.{eq-eqb, ne-eqb}
+use Rattle.promises.specs.Updates.{Update}
+use Rattle.promises.proofs.History.Views.{View, noView, viewBlock, viewFrom}
+use Rattle.promises.specs.Blocks.{update, commit, clean, LogBlock}
+use Rattle.promises.proofs.History.Machine.{lastKeep, Live, World, up, Cleaning, idle, noUpdate, updateLogged, commitLogged, cleaningAfter, cleanLogged}
+use Rattle.promises.specs.DirtyPages.{DirtyPage, at, lookUp, apply, applyAll, without, keepFromOf}
 use Rattle.promises.proofs.History.Ledger.{Book}
 use Rattle.promises.proofs.History.Stored.{store}
 use Rattle.promises.specs.Blocks.{Slot}
 use Rattle.promises.proofs.History.Sizes.{Sizes}
-use Rattle.promises.proofs.History.Sees.{Sees, clear, by-eq}
-use Rattle.promises.proofs.History.WalkStart.{commits, isCommit, commits-append, lastKeep-snoc, Distinct, distinct-all, distinct-without, keepFrom-le}
-use Rattle.promises.proofs.History.Invariant.{view, view-snoc, Disk, Half, whole, part, Well, Wells, Alive, Inv, counted, invariant-update, committed, invariant-commit, invariant-clean, invariant-front, invariant-back}
+use Rattle.promises.proofs.History.Sees.{by-eq}
+use Rattle.promises.proofs.History.WalkStart.{commits, isCommit, commits-append, lastKeep-snoc, keepFrom-le}
+use Rattle.promises.proofs.History.Invariant.{view, view-snoc, Disk, Half, whole, part, Wells, Alive, Inv, counted, invariant-update, committed, invariant-commit, invariant-clean}
 use Rattle.promises.proofs.History.Ring.{Holds, holds-store}
 use Rattle.promises.proofs.History.Tally.{tally, tally-same, tally-lookUp, here, Pages, isDirty, sees-here}
 use Rattle.promises.proofs.History.HalfEnd.{HalfEnd, half-end-update, half-end-commit, half-end-clean, legal-at}
 use Rattle.promises.proofs.History.KeepFrom.{leastOf, least-is, keep-applied, keep-le, own-ge, keep-grows}
 use Rattle.promises.proofs.History.Accepted.{Ups, Formed, formed-snoc, Right, pages-all, pages-without}
-use Rattle.promises.proofs.History.Rules.{ownIn, Rules, Ruled, ruled-snoc}
+use Rattle.promises.proofs.History.Rules.{ownIn, Ruled, ruled-snoc}
 
 abbrev pub UpsQ : ℕ → List (List Update) → Type 0
 UpsQ P [] = Unit {0}
