@@ -111,6 +111,8 @@ pub fn table(count: u64, seed: u64) -> String {
             "openings, the newest block damaged",
             counts.damaged_openings,
         ),
+        ("openings, some slots damaged", counts.bad_openings),
+        (".. of them accepted", counts.bad_openings_accepted),
         ("openings refused for the end", counts.damaged_ends),
     ];
     text.push('\n');

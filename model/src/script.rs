@@ -169,6 +169,9 @@ pub struct Counts {
     pub book_openings: u64,
     /// Openings tried with the newest block damaged.
     pub damaged_openings: u64,
+    /// Openings tried with some slots damaged, and how many of them were accepted.
+    pub bad_openings: u64,
+    pub bad_openings_accepted: u64,
     /// Openings of a script that were refused for a damaged slot after the newest block.
     pub damaged_ends: u64,
 }
@@ -190,6 +193,8 @@ impl Counts {
         self.book_answers += other.book_answers;
         self.book_openings += other.book_openings;
         self.damaged_openings += other.damaged_openings;
+        self.bad_openings += other.bad_openings;
+        self.bad_openings_accepted += other.bad_openings_accepted;
         self.damaged_ends += other.damaged_ends;
     }
 }

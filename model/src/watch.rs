@@ -189,6 +189,7 @@ impl Watch {
         counts.book_openings += 1;
         if self.no_gap && state.next > 1 {
             self.try_damaged(&log, &home, state.next - 1, counts);
+            self.try_bad_slots(&log, &home, state.next - 1, counts);
         }
     }
 
@@ -218,5 +219,42 @@ impl Watch {
         assert!(state == State::all_zero());
         assert!(frames.iter().all(|byte| *byte == 0));
         counts.damaged_openings += 1;
+    }
+
+    /// An opening with some slots damaged, each time others: refused with 7, or all as before.
+    fn try_bad_slots(&self, log: &[u8], home: &[u8], newest: u64, counts: &mut Counts) {
+        let Some((pages, frame_count)) = self.pages_and_frames else {
+            return;
+        };
+        let mut log = log.to_vec();
+        let mut newest_is_bad = false;
+        for slot in 0..self.slots {
+            // Numbers that look random, from the count of such openings and the slot.
+            let mixed = (counts.bad_openings * 1024 + slot).wrapping_mul(0x9E37_79B9_7F4A_7C15);
+            if mixed >> 32 & 7 > counts.bad_openings % 4 {
+                continue;
+            }
+            let place = slot as usize * BLOCK_SIZE + (mixed >> 40) as usize % BLOCK_SIZE;
+            log[place] = log[place].wrapping_add(1 + (mixed >> 50) as u8 % 255);
+            let bytes = &log[slot as usize * BLOCK_SIZE..][..BLOCK_SIZE];
+            assert_eq!(read_slot(bytes, slot, self.slots, pages), Slot::Damaged);
+            newest_is_bad |= slot == slot_of(newest, self.slots);
+        }
+        let mut frames = vec![99; frame_count as usize * PAGE_SIZE];
+        let staging = vec![99; frame_count as usize * MAX_UPDATE_LENGTH];
+        let (state, answer) = recovery::open(&log, home, &mut frames, &staging, FreeChoice::Lowest);
+        counts.bad_openings += 1;
+        match answer {
+            Err(refused) => assert_eq!(refused.refusal, Refusal::Damaged, "request f"),
+            Ok(ticket) => {
+                assert!(!newest_is_bad, "request f: the newest block is damaged");
+                assert_eq!(ticket, self.book.committed(), "request f: m");
+                for page in 0..pages {
+                    let shown = calls::read(&state, home, &frames, page).unwrap();
+                    assert!(shown == self.book.page(page), "request f: page {page}");
+                }
+                counts.bad_openings_accepted += 1;
+            }
+        }
     }
 }

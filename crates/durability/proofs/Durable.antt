@@ -12,12 +12,12 @@ use Rattle.promises.specs.LogStep.{LogSteps}
 use Rattle.promises.specs.CleanStep.{CleanSteps}
 use Rattle.promises.specs.Events.{World, Call, opening, begin, describe, ending, logStep, cleanStep, reading, settling, Reply, Step}
 use Rattle.promises.specs.Corollaries.{StaysSettled, AllOrNothing, NoTrace, OpensAlike}
-use Rattle.promises.specs.SilentLoss.{NoSilentLoss, SettledStored}
+use Rattle.promises.specs.SilentLoss.{NoSilentLoss, SettledStored, NoOtherPages}
 use Rattle.promises.specs.Alike.{CallsAlike, DesksAlike}
 use Rattle.promises.proofs.Accounts.{book-accounts}
 use Rattle.promises.proofs.Refines.{Refines, demand-three-by}
 use Rattle.promises.proofs.Corollaries.{stays-settled, all-or-nothing, no-trace, opens-alike}
-use Rattle.promises.proofs.SilentLoss.{no-silent-loss, settled-stored}
+use Rattle.promises.proofs.SilentLoss.{no-silent-loss, settled-stored, no-other-pages}
 use Rattle.promises.proofs.DesksAlike.{calls-alike, desks-alike}
 use Rattle.durability.specs.Called.{Formatted, Taken}
 use Rattle.durability.specs.Durable.{shipped, Durable, Accounted}
@@ -119,6 +119,10 @@ no-loss-in-silence = no-silent-loss shipped keeps-promises
 -- and where a ticket is settled there is such a block
 pub settled-has-block : SettledStored shipped
 settled-has-block = settled-stored shipped keeps-promises
+
+-- whatever slots of the log went bad, the next opening is refused with 7 or shows the book
+pub refused-or-the-book : NoOtherPages shipped
+refused-or-the-book = no-other-pages shipped keeps-promises
 
 -- the same call on two stores whose states say the same, with the same log and home: the same reply, and the same log and home after it
 pub same-call-same-log : CallsAlike shipped shipped

@@ -19,4 +19,4 @@ pub mod KeepFrom
 pub mod Rules
 pub mod Whole
 pub mod Reopened
-pub mod DamagedEnd
+pub mod DamagedSlots

@@ -104,6 +104,9 @@ slot-is : (N P : ℕ) (log : List ℕ) (i : ℕ) (x : List ℕ) → slotBytes lo
 unfolding slotAt
 slot-is N P log i x e = ap (λ (y : List ℕ). slotIn (judged N P i y) y) e
 
+pub same-slot : (N P : ℕ) (log log′ : List ℕ) (i : ℕ) → slotBytes log′ i ≡ slotBytes log i → slotAt N P log′ i ≡ slotAt N P log i
+same-slot N P log log′ i e = slot-is N P log′ i (slotBytes log i) e ∙ sym (slot-is N P log i (slotBytes log i) refl)
+
 -- BYTES THAT ARE PUT INTO A SLOT set it to what they are judged as, and no other
 pub slots-with : (N P i : ℕ) (log bytes : List ℕ) → i < N → length log ≡ N * 512 → length bytes ≡ 512
     → slotsOf N P (withSlot log i bytes) ≡ set (slotsOf N P log) i (slotIn (judged N P i bytes) bytes)
@@ -121,7 +124,7 @@ slots-with N P i log bytes inside e long =
     log′ = withSlot log i bytes
 
     other : (j : ℕ) → (j ≡ i → ⊥) → slotAt N P log′ j ≡ slotAt N P log j
-    other j n = slot-is N P log′ j (slotBytes log j) (area-other 512 log i j bytes room long (λ e. n (sym e))) ∙ sym (slot-is N P log j (slotBytes log j) refl)
+    other j n = same-slot N P log log′ j (area-other 512 log i j bytes room long (λ e. n (sym e)))
 
     at-slot : (j : ℕ) → j < N → slotAt N P log′ j ≡ getD (set (slotsOf N P log) i x) j unused
     at-slot j h = by-eq j i
@@ -166,7 +169,10 @@ out-of [] i h = refl
 out-of (x ∷ xs) zero h = absurd (omega arith)
 out-of (x ∷ xs) (suc i) h = out-of xs i (omega arith)
 
+pub no-slot : (N P : ℕ) (log : List ℕ) (i : ℕ) → N ≤ i → getD (slotsOf N P log) i unused ≡ unused
+no-slot N P log i h = out-of (slotsOf N P log) i (omega (arith, size-slots N P log))
+
 pub blank-slots : (N P i : ℕ) → getD (slotsOf N P (replicate (N * 512) 0)) i unused ≡ unused
 blank-slots N P i = either i N
     (λ h. get-slot N P (replicate (N * 512) 0) i h ∙ blank-slot N P (N * 512) i (omega arith))
-    (λ h. out-of (slotsOf N P (replicate (N * 512) 0)) i (omega (arith, size-slots N P (replicate (N * 512) 0))))
+    (λ h. no-slot N P (replicate (N * 512) 0) i h)

@@ -2,7 +2,7 @@
 use mathlib.Core.Path.{_≡_, refl, sym, ap, _∙_}
 use Prim.Native.Nat.{ℕ, zero, suc, _+_, _-_, _/_, _%_, _≤_, _<_}
 use native.Mathlib.Omega.{arith}
-use native.Mathlib.Nat.{mod-lt, div-add-mod', mul-le-mul-right, suc-mul}
+use native.Mathlib.Nat.{mod-lt, div-add-mod', mul-le-mul-right, suc-mul, add-mod-right}
 use native.Mathlib.Decide.{decLe}
 use mathlib.Core.Bool.{true, false}
 use mathlib.Core.List.{List, [], _∷_, _++_}
@@ -22,11 +22,11 @@ apart N a b l h e = elim (decLe (b / N) (a / N)) [
   | no n ↦ let y : suc (a / N) ≤ b / N = omega arith in omega (arith, div-add-mod' a N, div-add-mod' b N, mul-le-mul-right N y, suc-mul (a / N) N)
 ]
 
--- what a slot of a log holds: nothing, or a block from base on, in its own slot; no slot is damaged
+-- what a slot of a log holds: nothing, or one of the newest N blocks, from base on, in its own slot; no slot is damaged
 abbrev pub Past : (N base n i : ℕ) → Slot → Type 0
 Past N base n i unused = Unit {0}
 Past N base n i damaged = ⊥
-Past N base n i (valid s b) = (base ≤ s) × (s ≤ n) × (s % N ≡ i)
+Past N base n i (valid s b) = (base ≤ s) × (s ≤ n) × (s % N ≡ i) × (n < s + N)
 
 -- base: the first block that was stored in this log
 pub record Holds (N base : ℕ) (log : List Slot) (history : List LogBlock) : Type 0 where
@@ -35,20 +35,27 @@ pub record Holds (N base : ℕ) (log : List Slot) (history : List LogBlock) : Ty
   pub recent : (j : ℕ) → base ≤ j → j ≤ length history → length history < j + N → getD log (j % N) unused ≡ valid j (getD history (j - 1) noBlock)
   pub past : (i : ℕ) → Past N base (length history) i (getD log i unused)
 
-past-up : (N base n i : ℕ) (x : Slot) → Past N base n i x → Past N base (n + 1) i x
-past-up N base n i unused p = tt
-past-up N base n i damaged p = p
-past-up N base n i (valid s b) p = (p .0, omega (arith, p .1), p .2)
+past-up : (N base n i : ℕ) (x : Slot) → (i ≡ (n + 1) % N → ⊥) → Past N base n i x → Past N base (n + 1) i x
+past-up N base n i unused d p = tt
+past-up N base n i damaged d p = p
+past-up N base n i (valid s b) d p = (
+  p .0,
+  omega (arith, p .1),
+  p .2,
+  by-eq (n + 1) (s + N)
+      (λ e. absurd (d (sym (p .2) ∙ sym (add-mod-right s N) ∙ ap (λ (j : ℕ). j % N) (sym e))))
+      (λ e. omega (arith, p .3)),
+)
 
 pub past-le : (N base n i : ℕ) (x : Slot) → Past N base n i x → sequenceIn x ≤ n
 past-le N base n i unused p = omega arith
 past-le N base n i damaged p = absurd p
 past-le N base n i (valid s b) p = p .1
 
-past-none : (N base i : ℕ) (x : Slot) → 0 < base → Past N base 0 i x → x ≡ unused
-past-none N base i unused z p = refl
-past-none N base i damaged z p = absurd p
-past-none N base i (valid s b) z p = absurd (omega (arith, p .0, p .1))
+pub past-none : (N base n i : ℕ) (x : Slot) → n < base → Past N base n i x → x ≡ unused
+past-none N base n i unused z p = refl
+past-none N base n i damaged z p = absurd p
+past-none N base n i (valid s b) z p = absurd (omega (arith, p .0, p .1))
 
 past-whole : (N base n i : ℕ) (x : Slot) → Past N base n i x → isDamaged x ≡ false
 past-whole N base n i unused p = refl
@@ -71,8 +78,8 @@ holds-store N base log history b z from h =
           ∙ h .recent j j0 (omega arith) (omega arith)
           ∙ ap (valid j) (sym (List·getD-append history (b ∷ []) noBlock (j - 1) (omega (arith, h .begun)))));
       past = λ i. by-eq i (s % N)
-          (λ e. rw (e, getD-set-same log (s % N) (valid s b) unused inn) (from, omega arith, refl))
-          (λ n. rw (getD-set-other log (s % N) i (valid s b) unused n, ln) (past-up N base (length history) i (getD log i unused) (h .past i)));
+          (λ e. rw (e, getD-set-same log (s % N) (valid s b) unused inn) (from, omega arith, refl, omega arith))
+          (λ n. rw (getD-set-other log (s % N) i (valid s b) unused n, ln) (past-up N base (length history) i (getD log i unused) n (h .past i)));
     }
 
 -- Open gathers the history from k on
@@ -99,14 +106,14 @@ newest-ge [] i = omega arith
 newest-ge (x ∷ log) zero = omega arith
 newest-ge (x ∷ log) (suc i) = omega (arith, newest-ge log i)
 
-allUnused-none : (log : List Slot) → ((i : ℕ) → getD log i unused ≡ unused) → allUnused log ≡ true
+pub allUnused-none : (log : List Slot) → ((i : ℕ) → getD log i unused ≡ unused) → allUnused log ≡ true
 unfolding allUnused
 allUnused-none [] h = refl
 allUnused-none (x ∷ log) h = rw (h 0) (allUnused-none log (λ i. h (suc i)))
 
 -- OPEN READS THE HISTORY FROM KEEP-FROM ON
 pub gathered-none : (N base : ℕ) (log : List Slot) → Holds N base log [] → gathered N log ≡ blocks []
-gathered-none N base log h = gathered-fresh N log (allUnused-none log (λ i. past-none N base i (getD log i unused) (h .begun) (h .past i)))
+gathered-none N base log h = gathered-fresh N log (allUnused-none log (λ i. past-none N base 0 i (getD log i unused) (h .begun) (h .past i)))
 
 pub newest-history : (N base : ℕ) (log : List Slot) (history : List LogBlock) → Holds N base log history → base ≤ length history → 0 < N → newest log ≡ length history
 newest-history N base log history h from z =
