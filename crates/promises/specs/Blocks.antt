@@ -25,7 +25,7 @@ pub record LogBlock : Type 0 where
   pub keepFrom : ℕ
   pub ticket : ℕ
 
--- what a list of blocks is read as past its end
+-- what is read where there is no block
 abbrev pub noBlock : LogBlock
 noBlock = record { kind = clean 0; keepFrom = 0; ticket = 0 }
 
