@@ -17,11 +17,12 @@ use Rattle.block.specs.Kind.{lengthOf}
 use Rattle.block.specs.Slot.{allZero, same, blockAt, newBytesAt, valid as validBytes, judged, pickJudged}
 use Rattle.block.specs.declared.Judged.the-variants.{Unused, Damaged, Valid}
 use Rattle.promises.specs.Areas.{pageAt, slotBytes, slotsIn, pagesIn}
-use Rattle.promises.specs.Blocks.{LogBlock, Slot, unused, damaged, valid, kindIn, slotIn, slotAt, slotsFrom, slotsOf}
+use Rattle.promises.specs.Blocks.{LogBlock, Slot, unused, damaged, valid, kindIn, slotIn, slotAt, slotsOf}
 use Rattle.promises.specs.Newest.{sequenceIn, newest, keepIn, keepOf, Gathered, missing, blocks, withBlock, blockIn, gather, allUnused, isDamaged, endDamaged, endTested, gathered}
 use Rattle.promises.specs.Walk.{stops, walkFrom, walkGathered, startWith, believed, finding}
 use Rattle.promises.proofs.Soundness.{and-both}
-use Rattle.promises.proofs.Slots.{get-slot}
+use Rattle.promises.proofs.Slots.{get-slot, no-slot}
+use Rattle.promises.proofs.History.Ring.{newest-at}
 use Rattle.promises.proofs.Gathered.{unused-newest, gathered-fresh, gathered-damaged, gathered-from, end-missing, end-whole}
 use Rattle.recovery.specs.Log.{headerOf, blockOf, blocksFrom, Legal}
 
@@ -61,17 +62,6 @@ holding N P log j q n e = go (allZero bytes) refl (validBytes N P j bytes (block
           placeIs = ap (slotOf N) (sym h) ∙ eqb-true _ _ (a .1);
         }
 
--- ---- the newest block
-
-newest-at : (N P : ℕ) (log : List ℕ) (i n : ℕ) → (newest (slotsFrom N P log i n) ≡ 0 → ⊥)
-    → (j : ℕ) × (j < i + n) × (sequenceIn (slotAt N P log j) ≡ newest (slotsFrom N P log i n))
-unfolding slotsFrom newest
-newest-at N P log i zero h = absurd (h refl)
-newest-at N P log i (suc n) h =
-    either (sequenceIn (slotAt N P log i)) (newest (slotsFrom N P log (suc i) n))
-    (λ l. let r = newest-at N P log (suc i) n (λ z. absurd (omega arith)) in (r .0, omega (arith, r .1), omega (arith, r .2)))
-    (λ l. (i, omega arith, omega arith))
-
 -- ---- the blocks from keep-from on
 
 module _ (log home : List ℕ) (big : 512 ≤ length log) where
@@ -104,9 +94,13 @@ module _ (log home : List ℕ) (big : 512 ≤ length log) where
   -- the newest block stands in its slot
   pub newest-stands : (newest slots ≡ 0 → ⊥) → sequenceIn (slotAt N P log (slotOf N (newest slots))) ≡ newest slots
   newest-stands n =
-      let r = newest-at N P log 0 N n in
-      let x : Holding N P log (r .0) (newest slots) = holding N P log (r .0) (newest slots) n (r .2) in
-      ap (λ (j : ℕ). sequenceIn (slotAt N P log j)) (x .placeIs) ∙ r .2
+      let r = newest-at slots n in
+      either (r .0) N
+      (λ h.
+      let e : sequenceIn (slotAt N P log (r .0)) ≡ newest slots = ap sequenceIn (sym (get-slot N P log (r .0) h)) ∙ r .1 in
+      let x : Holding N P log (r .0) (newest slots) = holding N P log (r .0) (newest slots) n e in
+      ap (λ (j : ℕ). sequenceIn (slotAt N P log j)) (x .placeIs) ∙ e)
+      (λ h. absurd (n (sym (r .1) ∙ ap sequenceIn (no-slot N P log (r .0) h))))
 
   -- and its keep-from is the paper's k
   pub keep-is : (newest slots ≡ 0 → ⊥) → keepOf N slots ≡ headerOf log (newest slots) .«keep_from»

@@ -13,7 +13,7 @@ use Rattle.promises.specs.Blocks.{LogBlock, Slot, unused, damaged, valid
 use Rattle.promises.specs.Newest.{sequenceIn, newest, keepIn, keepOf, Gathered, missing, blocks, blockIn, gather, isUnused, allUnused, isDamaged, endDamaged, endTested, gathered}
 use Rattle.promises.proofs.Gathered.{unused-newest, gathered-fresh, gathered-damaged, gathered-from, end-missing}
 use Rattle.promises.proofs.History.Sees.{by-eq}
-use Rattle.promises.proofs.History.Ring.{Past, Holds, past-le, past-none, newest-le, newest-ge, newest-history, allUnused-none}
+use Rattle.promises.proofs.History.Ring.{Past, Holds, past-le, past-none, newest-le, newest-ge, newest-at, newest-history, allUnused-none}
 
 -- each slot is as it was, or damaged
 abbrev pub WentBad : List Slot → List Slot → Type 0
@@ -32,13 +32,6 @@ unfolding allUnused
 allUnused-some [] i e = cc
 allUnused-some (x ∷ log) zero e = rw e refl
 allUnused-some (x ∷ log) (suc i) e = rw (allUnused-some log i e) (and-false (isUnused x))
-
-newest-at : (log : List Slot) → (newest log ≡ 0 → ⊥) → (i : ℕ) × (sequenceIn (getD log i unused) ≡ newest log)
-unfolding newest
-newest-at [] n = absurd (n refl)
-newest-at (x ∷ log) n = either (sequenceIn x) (newest log)
-    (λ l. let r = newest-at log (λ z. absurd (omega arith)) in (suc (r .0), omega (arith, r .1)))
-    (λ l. (0, omega arith))
 
 -- consecutive blocks of a log that went bad: the same, or one is missing
 gather-bad : (N : ℕ) (log log′ : List Slot) → WentBad log log′ → (n j : ℕ) → (gather N log′ n j ≡ gather N log n j) ⊎ ((s : ℕ) × (gather N log′ n j ≡ missing s))

@@ -9,6 +9,7 @@ use mathlib.Core.List.{List, [], _∷_, _++_}
 use lib.ListN.{length, getD, drop, length-append, length-set, List·getD-append}
 use lib.Seq.{getD-set-same, getD-set-other, getD-append-seam, drop-cons, drop-length}
 use borrow.Author.Tests.{eq-eqb}
+use Rattle.area.proofs.Parts.{either}
 use Rattle.promises.specs.Blocks.{LogBlock, noBlock, Slot, unused, damaged, valid}
 use Rattle.promises.proofs.History.Stored.{store}
 use Rattle.promises.specs.Newest.{sequenceIn, newest, blocks, gather, keepIn, keepOf, allUnused, isDamaged, endTested, gathered}
@@ -105,6 +106,13 @@ unfolding newest
 newest-ge [] i = omega arith
 newest-ge (x ∷ log) zero = omega arith
 newest-ge (x ∷ log) (suc i) = omega (arith, newest-ge log i)
+
+pub newest-at : (log : List Slot) → (newest log ≡ 0 → ⊥) → (i : ℕ) × (sequenceIn (getD log i unused) ≡ newest log)
+unfolding newest
+newest-at [] n = absurd (n refl)
+newest-at (x ∷ log) n = either (sequenceIn x) (newest log)
+    (λ l. let r = newest-at log (λ z. absurd (omega arith)) in (suc (r .0), omega (arith, r .1)))
+    (λ l. (0, omega arith))
 
 pub allUnused-none : (log : List Slot) → ((i : ℕ) → getD log i unused ≡ unused) → allUnused log ≡ true
 unfolding allUnused
