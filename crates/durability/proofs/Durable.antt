@@ -14,11 +14,13 @@ use Rattle.promises.specs.Events.{World, Call, opening, begin, describe, ending
 use Rattle.promises.specs.Corollaries.{StaysSettled, AllOrNothing, NoTrace, OpensAlike}
 use Rattle.promises.specs.SilentLoss.{NoSilentLoss, SettledStored, NoOtherPages}
 use Rattle.promises.specs.Alike.{CallsAlike, DesksAlike}
+use Rattle.promises.specs.Waiting.{WaitBound}
 use Rattle.promises.proofs.Accounts.{book-accounts}
 use Rattle.promises.proofs.Refines.{Refines, demand-three-by}
 use Rattle.promises.proofs.Corollaries.{stays-settled, all-or-nothing, no-trace, opens-alike}
 use Rattle.promises.proofs.SilentLoss.{no-silent-loss, settled-stored, no-other-pages}
 use Rattle.promises.proofs.DesksAlike.{calls-alike, desks-alike}
+use Rattle.promises.proofs.WaitBound.{wait-bound}
 use Rattle.durability.specs.Called.{Formatted, Taken}
 use Rattle.durability.specs.Durable.{shipped, Durable, Accounted}
 
@@ -131,3 +133,7 @@ same-call-same-log = calls-alike shipped shipped keeps-promises keeps-promises
 -- two desks that found the same home and made the same calls, with the same cuts, have the same log and home, byte for byte
 pub same-calls-same-log : DesksAlike shipped shipped
 same-calls-same-log = desks-alike shipped shipped keeps-promises keeps-promises
+
+-- a feed that Begin refused as full: after W log steps, and at most 3 F clean steps, the same Begin is accepted
+pub feed-waits : WaitBound shipped
+feed-waits = wait-bound shipped keeps-promises

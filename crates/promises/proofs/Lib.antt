@@ -27,5 +27,8 @@ pub mod OpenFindings
 pub mod AlikeSteps
 pub mod Refines
 pub mod SilentLoss
+pub mod LogTurns
+pub mod CleanTurns
+pub mod WaitBound
 pub mod Corollaries
 pub mod DesksAlike

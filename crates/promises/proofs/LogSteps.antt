@@ -2,17 +2,16 @@
 -- Assumes nothing.
 use mathlib.Core.Path.{_≡_, refl, sym, ap, _∙_, subst}
 use mathlib.Core.Bool.{true, cond, _&&_}
-use Prim.Native.Nat.{ℕ, _+_, _*_, _-_, _%_, _^_, _≤_, _<_, min}
+use Prim.Native.Nat.{ℕ, _+_, _*_, _-_, _^_, _≤_, _<_, min}
 use mathlib.Core.List.{List, [], _∷_, _++_, map}
 use native.Mathlib.Omega.{arith}
-use native.Mathlib.Nat.{mod-lt}
 use lib.ListN.{length, take, getD, length-take, length-append}
 use lib.Dec.{eqb, ltb}
 use borrow.Author.Tests.{leb-true, eqb-false, lt-ltb, le-ltb}
 use Rattle.promises.specs.declared.State.{State}
 use Rattle.promises.specs.Areas.{pageAt}
 use Rattle.promises.specs.Updates.{Update, redo, ofPage}
-use Rattle.promises.specs.Blocks.{update, commit, LogBlock, written, Slot, slotsOf}
+use Rattle.promises.specs.Blocks.{update, commit, LogBlock, Slot, slotsOf}
 use Rattle.promises.specs.DirtyPages.{lookUp, keepFromOf, applyAll}
 use Rattle.promises.specs.Contents.{dirtyOf, groupsOf, grouped, queueOf, waiting, total}
 use Rattle.promises.specs.Sound.{sound, ofOldest}
@@ -39,9 +38,8 @@ use Rattle.promises.specs.Events.{Sizes, World, logStep, Reply, done, se
 use Rattle.promises.specs.Claim.{entered}
 use Rattle.promises.specs.Stored.{newBlock, storedIn}
 use Rattle.promises.proofs.Ranges.{Ranged}
-use Rattle.area.proofs.Parts.{length-splice}
 use Rattle.block.proofs.Facts.{NumberFacts}
-use Rattle.promises.proofs.Slots.{KindFits, slots-store, length-written}
+use Rattle.promises.proofs.Slots.{KindFits, carried-few, slots-store, length-stored}
 use Rattle.promises.proofs.SoundFacts.{Facts, facts, length-queue}
 use Rattle.promises.proofs.Kept.{sizesOf, bookOf, liveOf, stageOf, Fit, Fits, FitsAll, Lives, Good, fits-updates, fits-at, apply-all-cong, lives-from, cleaning-after}
 use Rattle.promises.proofs.StoredBlocks.{none-stored, one-stored}
@@ -80,9 +78,7 @@ heads c (n ∷ ns) us g q e h =
 -- a store into the log: its length, and its slots
 module _ (z : Sizes) (range : Ranged z) (log : List ℕ) (long : length log ≡ z .slots * 512) (n : ℕ) (x : LogBlock) (fits : KindFits (z .pages) (x .ticket) (x .kind)) where
   pub stored-long : length (stored (z .slots) log n x) ≡ z .slots * 512
-  stored-long =
-      let m : n % z .slots < z .slots = mod-lt n (omega arith) in
-      length-splice log (n % z .slots * 512) 512 (written n x) (omega arith) (length-written (z .pages) n x fits) ∙ long
+  stored-long = length-stored (z .slots) n log x (omega arith) long (carried-few (z .pages) (x .ticket) (x .kind) fits)
 
   pub stored-slots : NumberFacts (z .slots) n (x .keepFrom) (x .ticket) → slotsOf (z .slots) (z .pages) (stored (z .slots) log n x) ≡ store (z .slots) n x (slotsOf (z .slots) (z .pages) log)
   stored-slots c = slots-store (z .slots) (z .pages) n log x (omega arith) (omega arith) long c fits

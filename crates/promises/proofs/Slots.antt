@@ -9,7 +9,7 @@ use native.Mathlib.Nat.{mod-lt}
 use lib.ListN.{length, take, drop, getD, set, replicate, length-set}
 use lib.Seq.{ext-getD, getD-set-same, getD-set-other}
 use Rattle.area.specs.Part.{part}
-use Rattle.area.proofs.Parts.{either, part-same, area-other}
+use Rattle.area.proofs.Parts.{either, length-splice, part-same, area-other}
 use Rattle.block.specs.Kind.{lengthOf}
 use Rattle.block.specs.Layout.{layout}
 use Rattle.block.specs.Legal.{legal}
@@ -19,7 +19,7 @@ use Rattle.block.proofs.Lengths.{length-layout}
 use Rattle.block.proofs.Facts.{NumberFacts, UpdateFacts, CommitFacts, update-legal, commit-legal, clean-legal}
 use Rattle.block.proofs.ReadBack.{read-back, new-back, zero-unused}
 use Rattle.promises.specs.Areas.{slotBytes, withSlot}
-use Rattle.promises.specs.Blocks.{Kind, update, commit, clean, LogBlock, fieldsOf, carried, written, Slot, unused, valid, kindIn, slotIn, slotAt, slotsFrom, slotsOf}
+use Rattle.promises.specs.Blocks.{Kind, update, commit, clean, LogBlock, fieldsOf, carried, written, stored, Slot, unused, valid, kindIn, slotIn, slotAt, slotsFrom, slotsOf}
 use Rattle.promises.proofs.History.Stored.{store}
 use Rattle.promises.proofs.History.Sees.{by-eq}
 
@@ -39,7 +39,7 @@ carried-long s k t (update i u) = refl
 carried-long s k t (commit n) = refl
 carried-long s k t (clean q) = refl
 
-carried-few : (P t : ℕ) (b : Kind) → KindFits P t b → length (carried b) ≤ 472
+pub carried-few : (P t : ℕ) (b : Kind) → KindFits P t b → length (carried b) ≤ 472
 carried-few P t (update i u) f = f .length-most
 carried-few P t (commit n) f = omega arith
 carried-few P t (clean q) f = omega arith
@@ -47,6 +47,13 @@ carried-few P t (clean q) f = omega arith
 pub length-written : (P s : ℕ) (b : LogBlock) → KindFits P (b .ticket) (b .kind) → length (written s b) ≡ 512
 unfolding written
 length-written P s b f = length-layout _ _ (carried-few P (b .ticket) (b .kind) f)
+
+-- a log with a block stored has its length
+pub length-stored : (N s : ℕ) (log : List ℕ) (b : LogBlock) → 0 < N → length log ≡ N * 512 → length (carried (b .kind)) ≤ 472 → length (stored N log s b) ≡ N * 512
+unfolding written
+length-stored N s log b big long few =
+    let m : s % N < N = mod-lt s big in
+    length-splice log (s % N * 512) 512 (written s b) (omega arith) (length-layout _ _ few) ∙ long
 
 -- the bytes of a written block tell its kind
 kind-back : (s k t : ℕ) (b : Kind) → kindIn (fieldsOf s k t b .kind) (layout (fieldsOf s k t b) (carried b)) ≡ b

@@ -25,3 +25,4 @@ pub mod Stored
 pub mod SilentLoss
 pub mod Corollaries
 pub mod Alike
+pub mod Waiting
