@@ -133,8 +133,51 @@ fn damaged_ends() -> Vec<String> {
     lines
 }
 
+/// Request k: Begin is refused as full, what waits is stored, what is dirty is cleaned, and Begin is accepted.
+fn waits() -> Vec<String> {
+    let mut lines = Vec::new();
+    let cleanings = |count: usize| "c/".repeat(count);
+    // All of 2 frames hold dirty pages: 6 clean steps, the seventh has nothing to do.
+    let dirty = "a 8 4 2/f/o/b 2/d 0 0 1 1/d 1 0 1 2/e/l/l/l";
+    say(&mut lines, &format!("{dirty}/b 2/{}c/b 2", cleanings(6)));
+    // Begin after each of them: it is refused up to the last.
+    say(&mut lines, dirty);
+    for _ in 0..6 {
+        say(&mut lines, "b 2/c");
+    }
+    say(&mut lines, "b 2");
+    // Two groups wait, one update of them is stored: 3 log steps, the fourth has nothing to do, then 6 clean steps.
+    say(
+        &mut lines,
+        &format!(
+            "a 16 4 3/f/o/b 1/d 0 0 1 1/e/b 1/d 1 0 1 2/e/l/b 2/l/l/l/l/{}c/b 2",
+            cleanings(6)
+        ),
+    );
+    // A commit makes a cleaning idle at its third store: its page takes 3 clean steps again.
+    say(
+        &mut lines,
+        "a 16 4 2/f/o/b 1/d 0 0 1 1/e/l/l/c/c/b 1/d 0 9 1 2/e/b 2/l/l/l/c/c/c/c/b 2",
+    );
+    // The largest store of a script: 8 frames, two groups of 4 updates, 24 clean steps.
+    say(&mut lines, "a 64 16 8/f/o");
+    for group in 0..2 {
+        say(&mut lines, "b 4");
+        for page in 4 * group..4 * group + 4 {
+            lines.push(format!("d {page} {page} 1 {page}"));
+        }
+        lines.push("e".to_string());
+    }
+    say(
+        &mut lines,
+        &format!("b 8/{}/l/{}c/b 8", ["l"; 10].join("/"), cleanings(24)),
+    );
+    lines
+}
+
 /// Cases 5 to 13 in the script language, 8 slots, 4 pages and 2 frames unless said there; then three
-/// desks of request b, whose last lines are the same; then the damaged logs of request f.
+/// desks of request b, whose last lines are the same; then the damaged logs of request f, and the Begins
+/// of request k that wait.
 pub fn script() -> String {
     let mut lines: Vec<String> = Vec::new();
     let all = u64::MAX;
@@ -217,6 +260,7 @@ pub fn script() -> String {
     }
 
     lines.extend(damaged_ends());
+    lines.extend(waits());
 
     let mut text = String::new();
     for line in lines {
@@ -523,6 +567,11 @@ mod tests {
                 "refused 7 place 281474976710656",
                 "opened 1 next 281474976710656",
                 "refused 7 place 281474976710655",
+                "opened 0 next 1", // request k
+                "opened 0 next 1",
+                "opened 0 next 1",
+                "opened 0 next 1",
+                "opened 0 next 1",
             ]
         );
         // Case 10, twice.
@@ -554,6 +603,41 @@ mod tests {
         // Request f: an opening that is refused writes neither log nor home.
         let refused = &digests[digests.len() - 2..];
         assert_eq!(refused[0], refused[1], "request f");
+    }
+
+    /// Request k, by hand: what each line of Begin, Log step and Clean step answers.
+    #[test]
+    fn waits_by_hand() {
+        let mut runner = Runner::new(FreeChoice::Lowest);
+        let mut answers = String::new();
+        for line in waits() {
+            let answer = runner.run_line(line.as_bytes());
+            let letter = line.chars().next().unwrap();
+            match letter {
+                'a' => answers.push('|'),
+                'b' | 'l' | 'c' => {
+                    answers.push(letter);
+                    answers += match answer.as_str() {
+                        "refused 5" => "5",
+                        "refused 10" => "10",
+                        other => {
+                            assert!(!other.starts_with("refused"), "{line}: {other}");
+                            ""
+                        }
+                    };
+                }
+                _ => assert!(!answer.starts_with("refused"), "{line}: {answer}"),
+            }
+        }
+        let expected = [
+            "".to_string(),
+            "blllb5ccccccc10b".to_string(),
+            "blllb5cb5cb5cb5cb5cb5cb".to_string(),
+            "bblb5llll10ccccccc10b".to_string(),
+            "bllccbb5lll10cccc10b".to_string(),
+            format!("bbb5{}l10{}c10b", "l".repeat(10), "c".repeat(24)),
+        ];
+        assert_eq!(answers, expected.join("|"));
     }
 
     /// The four numbers in every order.

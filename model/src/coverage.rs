@@ -114,6 +114,9 @@ pub fn table(count: u64, seed: u64) -> String {
         ("openings, some slots damaged", counts.bad_openings),
         (".. of them accepted", counts.bad_openings_accepted),
         ("openings refused for the end", counts.damaged_ends),
+        ("Begins that waited", counts.waits),
+        (".. with a block to store", counts.waits_for_blocks),
+        (".. with 3 F clean steps", counts.longest_waits),
     ];
     text.push('\n');
     for (name, number) in events {

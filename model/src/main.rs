@@ -12,6 +12,7 @@ mod random;
 mod recovery;
 mod script;
 mod state;
+mod waiting;
 mod watch;
 
 use std::io::{Read, Write};
@@ -21,7 +22,7 @@ const USAGE: &str = "\
 model run < SCRIPT          print the lines that must come out
 model make SEED             print a random script
 model coverage COUNT SEED   make COUNT scripts from SEED on, and say what they covered
-model cases                 print the script of the worked cases 5 to 13 and of requests b and f
+model cases                 print the script of the worked cases 5 to 13 and of requests b, f and k
 model image < SCRIPT        run a script and write the log it leaves, byte for byte
 model logshow < LOG         print what the program logshow must print for a log
 ";

@@ -5,6 +5,7 @@ use crate::block::{Slot, BLOCK_SIZE, MAX_UPDATE_LENGTH, PAGE_SIZE};
 use crate::calls::{self, area_range, FreeChoice, Refusal};
 use crate::recovery;
 use crate::state::{Cleaning, State};
+use crate::waiting;
 use crate::watch::Watch;
 
 #[derive(Clone, Debug, PartialEq, Eq)]
@@ -128,7 +129,7 @@ pub struct Store {
 }
 
 impl Store {
-    fn new(slots: u64, pages: u64, frames: u64) -> Store {
+    pub fn new(slots: u64, pages: u64, frames: u64) -> Store {
         let log = vec![255; slots as usize * BLOCK_SIZE];
         let mut home = vec![0; pages as usize * PAGE_SIZE];
         for i in 0..home.len() {
@@ -174,6 +175,11 @@ pub struct Counts {
     pub bad_openings_accepted: u64,
     /// Openings of a script that were refused for a damaged slot after the newest block.
     pub damaged_ends: u64,
+    /// Begins refused as full that were tried again after the steps of request k; those with a log
+    /// step among these, and those with as many clean steps as there can be.
+    pub waits: u64,
+    pub waits_for_blocks: u64,
+    pub longest_waits: u64,
 }
 
 impl Counts {
@@ -196,6 +202,9 @@ impl Counts {
         self.bad_openings += other.bad_openings;
         self.bad_openings_accepted += other.bad_openings_accepted;
         self.damaged_ends += other.damaged_ends;
+        self.waits += other.waits;
+        self.waits_for_blocks += other.waits_for_blocks;
+        self.longest_waits += other.longest_waits;
     }
 }
 
@@ -416,7 +425,19 @@ impl Runner {
                 }
             }
             Command::Begin(updates) => match calls::begin(state, *updates) {
-                Err(refusal) => refused_line(refusal),
+                Err(refusal) => {
+                    if refusal == Refusal::Full && waiting::is_spoken_of(store) {
+                        let steps = waiting::wait(store, *updates, self.choice);
+                        counts.waits += 1;
+                        if steps.log_steps > 0 {
+                            counts.waits_for_blocks += 1;
+                        }
+                        if steps.clean_steps == 3 * store.state.frames {
+                            counts.longest_waits += 1;
+                        }
+                    }
+                    refused_line(refusal)
+                }
                 Ok(()) => {
                     if let Some(watch) = &mut self.watch {
                         watch.begin();

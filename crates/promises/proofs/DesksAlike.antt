@@ -57,7 +57,7 @@ use Rattle.promises.specs.Events.{
 use Rattle.promises.specs.Claim.{Steps, entered, cutAt, both, Run, formatted, called, unfit, cut, cutUnfit, foundBy}
 use Rattle.promises.specs.Alike.{Alike, asked, Event, calls, callsUnfit, cuts, cutsUnfit, eventsOf, repliesOf, SameDesk, CallsAlike, DesksAlike}
 use Rattle.promises.proofs.Ranges.{Ranged, ranged}
-use Rattle.promises.proofs.Replies.{no-accept, refused-number, end-refused-number, log-refused-number, standing-refused-number, read-refused-number, open-refused-reply}
+use Rattle.promises.proofs.Replies.{no-accept, same-refusal, refused-number, end-refused-number, log-refused-number, standing-refused-number, read-refused-number, open-refused-reply}
 use Rattle.promises.proofs.Demand3.{Unfit, unfit-state}
 use Rattle.promises.proofs.Refines.{Refines}
 use Rattle.promises.proofs.OpenFindings.{open-refusals}
@@ -182,14 +182,11 @@ unfit-reply : (c : Call) (w : World) (a : Reply) (w′ : World) → Step c w a w
 unfolding beginRefusal describeRefusal endRefusal logRefusal cleanRefusal readRefusal settledRefusal
 unfit-reply (opening f s) w a w′ st r = ⊎-elim (λ (q : a ≡ refuses 1). q) (λ (q : a ≡ refuses 2). go (openFinding (w .log) (w .home) (length f) (length s)) refl q) r
   where
-    number : {n k : ℕ} → refuses n ≡ refuses k → n ≡ k
-    number q = cc
-
     go : (x : Finding) → openFinding (w .log) (w .home) (length f) (length s) ≡ x → a ≡ refuses 2 → a ≡ refuses 1
     go (stops n j) e q =
         let h = open-refusals (w .log) (w .home) (length f) (length s) n j e in
         let o = st .promise .refused n j e in
-        absurd (h .1 (number (sym (open-refused-reply (st .result .answer) n (o .refusalIs) (h .0)) ∙ sym (st .replyIs) ∙ q)))
+        absurd (h .1 (same-refusal (sym (open-refused-reply (st .result .answer) n (o .refusalIs) (h .0)) ∙ sym (st .replyIs) ∙ q)))
     go (stands n v) e q =
         let k : refuses 2 ≡ settles (v .ticket) = sym q ∙ st .replyIs ∙ ap openAnswered (st .promise .accepted n v e .answerIs) in
         no-accept (ap accepts k)

@@ -67,6 +67,9 @@ pub no-accept : {X : Type 0} → _≡_ {A = Bool} false true → X
 no-accept e = let n : _≡_ {A = ℕ} 0 1 = cc in absurd (omega arith)
 
 -- what a refusing reply says of the answer
+pub same-refusal : {m n : ℕ} → refuses m ≡ refuses n → m ≡ n
+same-refusal e = cc
+
 pub refused-number : (a : Answer) (n : ℕ) → answered a ≡ refuses n → refusalIn a ≡ n
 refused-number (Refused x) n e = cc
 refused-number Done n e = no-accept (sym (ap accepts e))
@@ -88,10 +91,7 @@ standing-refused-number No n e = no-accept (sym (ap accepts e))
 pub read-refused-number : (m n : ℕ) (bytes : List ℕ) → readAnswered m bytes ≡ refuses n → m ≡ n
 read-refused-number m n bytes e = by-eq m 0
     (λ z. no-accept (sym (ap accepts (sym (read-accepted-reply m bytes z) ∙ e))))
-    (λ z. number (sym (read-refused-reply m bytes z) ∙ e))
-  where
-    number : refuses m ≡ refuses n → m ≡ n
-    number q = cc
+    (λ z. same-refusal (sym (read-refused-reply m bytes z) ∙ e))
 
 -- an accepted call that answers nothing else is done
 pub accepted-done : (a : Answer) → accepts (answered a) ≡ true → answered a ≡ done
