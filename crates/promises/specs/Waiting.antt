@@ -25,6 +25,7 @@ pub data Calls (by : Steps) (call : Call) : ℕ → World → World → Type 0 w
   more : {count : ℕ} {world world′ world″ : World} (reply : Reply) → by .steps call world reply world′ → Calls by call count world′ world″
       → Calls by call (suc count) world world″
 
+-- each of these calls is accepted
 unfoldable pub AllAccepted : {by : Steps} {call : Call} {count : ℕ} {world world′ : World} → Calls by call count world world′ → Type 0
 AllAccepted (none same) = Unit {0}
 AllAccepted (more reply step rest) = (accepts reply ≡ true) × AllAccepted rest
