@@ -1,8 +1,8 @@
 -- The ways in which a Begin that waits ends, each from the promises of the calls that it made.
 -- Assumes nothing.
-use mathlib.Core.Path.{_≡_, refl, sym, ap, _∙_, subst}
-use Prim.Native.Nat.{ℕ, _+_, _≤_}
-use mathlib.Core.List.{List, []}
+use mathlib.Core.Path.{_≡_, refl, sym, ap, subst}
+use Prim.Native.Nat.{ℕ}
+use mathlib.Core.List.{List}
 use native.Mathlib.Omega.{arith}
 use Rattle.promises.specs.declared.State.{State}
 use Rattle.promises.specs.declared.Answer.{Answer}
