@@ -241,15 +241,15 @@ pub start-logs : (w : World) (n : ℕ) → waitingBlocks (w .state) ≡ n → Fi
     → Logs (w .state .slots) (w .state .frames) (w .state .next + n) n w
 start-logs w n e fit so shut = record { isSound = so; fits = fit; closed = shut; left = e; next = omega arith; slotsAre = refl; framesAre = refl }
 
--- W and F are small beside what is left of the sequences
-pub room-left : (s : State) (n : ℕ) → waitingBlocks s ≡ n → sound s ≡ true → s .next + 4096 ≤ 2 ^ 48 → s .next + n + s .frames + 17 ≤ 2 ^ 48
+-- W is at most 1,024, F at most 32 and u + 1 at most 17: with 1,073 sequences left they are enough
+pub room-left : (s : State) (n : ℕ) → waitingBlocks s ≡ n → sound s ≡ true → s .next + 1073 ≤ 2 ^ 48 → s .next + n + s .frames + 17 ≤ 2 ^ 48
 room-left s n e so far = let f : Sound s = sound-of s so in omega (arith, e, f .slotSum, f .slots, f .frames, far)
 
 module _ (by : Steps) (r : Refines by) (w : World) (u : ℕ) (fit : Fitting w) (full w₁ : World) (st : by .steps (begin u) w (refuses 5) full) where
   abbrev s : State
   s = w .state
 
-  waits : (n m : ℕ) (logged : Calls by logStep n full w₁) → waitingBlocks s ≡ n → 3 * s .frames ≤ m → s .next + 4096 ≤ 2 ^ 48 → Waits u m logged
+  waits : (n m : ℕ) (logged : Calls by logStep n full w₁) → waitingBlocks s ≡ n → 3 * s .frames ≤ m → s .next + 1073 ≤ 2 ^ 48 → Waits u m logged
   waits n m logged e most room =
       let b = r .steps (begin u) w (refuses 5) full st in
       let five : beginRefusal s u ≡ 5 = sym (b .promise .refusal) ∙ refused-number (b .result .answer) 5 (sym (b .replyIs)) in

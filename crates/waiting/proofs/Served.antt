@@ -118,7 +118,7 @@ module _ (w : World) (u : ℕ) (fit : Fitting w) (far : w .state .next + 4096 �
   logged-out v v′ k r st logs = logs-until (w .state .slots) (w .state .frames) last (waitingBlocks (w .state)) k r v v′ logs (begins v st)
 
   room : last + w .state .frames + 17 ≤ 2 ^ 48
-  room = room-left (w .state) (waitingBlocks (w .state)) refl (full .isSound) far
+  room = room-left (w .state) (waitingBlocks (w .state)) refl (full .isSound) (omega (arith, far))
 
   cleaned-out : (v′ v″ : World) (k r : ℕ) → Logs (w .state .slots) (w .state .frames) last 0 v′ → Until promised cleanStep k v′ r v″
       → Cleaned (w .state .slots) (w .state .frames) (last + w .state .frames) (3 * w .state .frames) k r v″
