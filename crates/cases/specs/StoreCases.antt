@@ -10,7 +10,7 @@ use Rattle.promises.specs.Areas.{pageAt}
 use Rattle.promises.specs.Blocks.{update, commit, clean, LogBlock, written}
 use Rattle.promises.specs.DirtyPages.{lookUp, shown}
 use Rattle.promises.specs.Walk.{Finding, stops, stands, finding}
-use Rattle.promises.specs.Contents.{allZeroState}
+use Rattle.promises.specs.States.{allZeroState}
 use Rattle.promises.specs.Begin.{beginRefusal}
 use Rattle.promises.specs.Read.{readRefusal}
 use Rattle.cases.specs.Case.{Case}

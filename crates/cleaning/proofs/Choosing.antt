@@ -24,8 +24,8 @@ use Rattle.promises.proofs.Soundness.{and-both, Sound}
 use Rattle.promises.proofs.Table.{lookUp-set}
 use Rattle.promises.proofs.History.Sees.{by-eq}
 use Rattle.soundness.proofs.Scans.{firsts-more, firsts-same, firsts-end}
-use Rattle.table.specs.Search.{free, isOf}
-use Rattle.table.proofs.Entries.{own-apart, first-below}
+use Rattle.promises.specs.States.{free, isOf}
+use Rattle.table.proofs.Entries.{used-below, own-apart, first-below}
 use Rattle.table.proofs.Scans.{lower, not-lower}
 use Rattle.cleaning.specs.Cleans.{entryAt, rankIn, Named}
 
@@ -37,23 +37,6 @@ rank-free named entry e = simp (eq-eqb _ _ e)
 -- where no page is named
 rank-used : (entry : Dirty) → (entry .first ≡ 0 → ⊥) → entry .page < 65536 → rankIn 65536 entry ≡ entry .first * 65536 + entry .page
 rank-used entry n small = simp (ne-eqb _ _ n, ne-eqb 65536 (entry .page) (λ e. omega arith))
-
--- a frame in use is one of those below a count from which on none is
-used-below : (count : ℕ) (ds : List Dirty) (i : ℕ) → length (firstGroups (drop count ds)) ≡ 0 → (getD ds i free .first ≡ 0 → ⊥) → i < count
-unfolding firstGroups
-used-below count [] i h n = absurd (n refl)
-used-below zero (d ∷ ds) zero h n = go (eqb (d .first) 0) refl h
-  where
-    go : (t : Bool) → eqb (d .first) 0 ≡ t → length (unless t (d .first) (firstGroups ds)) ≡ 0 → 0 < 0
-    go true e h = absurd (n (eqb-true _ _ e))
-    go false e h = absurd (omega arith)
-used-below zero (d ∷ ds) (suc i) h n = go (eqb (d .first) 0) h (used-below zero ds i)
-  where
-    go : (t : Bool) → length (unless t (d .first) (firstGroups ds)) ≡ 0 → (length (firstGroups ds) ≡ 0 → (getD ds i free .first ≡ 0 → ⊥) → i < 0) → suc i < 0
-    go true h ih = absurd (omega (arith, ih h n))
-    go false h ih = absurd (omega arith)
-used-below (suc count) (d ∷ ds) zero h n = omega arith
-used-below (suc count) (d ∷ ds) (suc i) h n = omega (arith, used-below count ds i h n)
 
 -- ---- searches that end with the last dirty page
 

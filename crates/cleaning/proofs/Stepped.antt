@@ -5,7 +5,8 @@ use mathlib.Core.Bool.{true}
 use mathlib.Core.List.{List, []}
 use Prim.Native.Nat.{ℕ, _*_, _^_, _≤_, _<_}
 use native.Mathlib.Omega.{arith}
-use lib.ListN.{length}
+use lib.ListN.{length, getD}
+use borrow.Author.Tests.{eq-eqb, ne-eqb}
 use Rattle.block.proofs.Tests.{tests}
 use Rattle.promises.specs.declared.State.{State}
 use Rattle.promises.specs.declared.Cleaning.{Cleaning}
@@ -14,22 +15,25 @@ use Rattle.promises.specs.Areas.{pageAt, firstHalf, secondHalf, withFirstHalf, 
 use Rattle.promises.specs.Blocks.{clean, stored}
 use Rattle.promises.specs.DirtyPages.{DirtyPage, at, lookUp, without}
 use Rattle.promises.specs.Contents.{contentsOf, dirtyOf}
+use Rattle.promises.specs.States.{free, isOf, setCleaning}
 use Rattle.promises.specs.Sums.{dirtyCount, sequencesTaken}
 use Rattle.promises.specs.Sound.{sound, names, member, dirtyNumbers}
 use Rattle.promises.specs.declared.Answer.{Answer}
 use Rattle.promises.specs.declared.Answer.the-variants.{Refused, Done}
-use Rattle.promises.specs.Answers.{refusalIn}
+use Rattle.promises.specs.Answers.{refuses, done, numberIn, replied, answered}
 use Rattle.promises.specs.CleanStep.{NoLater, Takes, cleanStore, thirdRefusal, cleanRefusalOf, CleanStep, CleanSteps}
 use Rattle.promises.proofs.Soundness.{Sound, sound-of, of-sound}
-use Rattle.promises.proofs.Changes.{cleaningTo, sound-cleaning}
+use Rattle.promises.proofs.Changes.{sound-cleaning}
 use Rattle.promises.proofs.Promised.{clean-accepts}
 use Rattle.table.specs.Table.{Holds}
+use Rattle.table.proofs.Entries.{freed-is}
 use Rattle.table.proofs.Holding.{held-keep, sound-holds}
 use Rattle.stepping.specs.Tables.{tableWith, tableOf}
 use Rattle.stepping.proofs.Held.{held-named}
+use Rattle.promises.proofs.Replies.{replied-refused, replied-accepted}
 use Rattle.stepping.proofs.Refused.{numbered}
 use Rattle.cleaning.specs.declared.Change.{Change}
-use Rattle.cleaning.specs.Cleans.{entryAt, rankIn, namedIn, TakesFrame, Named, Chosen, Fitting, changed, Cleaned, doneWith, Changes}
+use Rattle.cleaning.specs.Cleans.{entryAt, rankIn, namedIn, TakesFrame, Named, Chosen, Fitting, changed, cleanDone, Cleaned, doneWith, Changes}
 use Rattle.cleaning.proofs.Decision.{Accepted, accepted, block-passed}
 use Rattle.cleaning.proofs.Choosing.{rank-zero, rank-named, dirty-at, first-used, rank-order, named-here, pages-small, frames-below, look-frame, look-all}
 use Rattle.cleaning.proofs.Storing.{sound-clean}
@@ -114,20 +118,21 @@ module _ (s : State) (log home frames : List ℕ) (accepts : cleanRefusalOf s lo
   -- the step of a cleaning that is at this store
   step-by : (c : Cleaning) (r : State) (log′ home′ : List ℕ) → s .cleaning ≡ c → sound r ≡ true
       → log′ ≡ cleanStore c s log home pages (contentsOf s []) page entry .log → home′ ≡ cleanStore c s log home pages (contentsOf s []) page entry .home
+      → r ≡ cleanStore c s log home pages (contentsOf s []) page entry .state
       → ((staging : List ℕ) → contentsOf r staging ≡ cleanStore c s log home pages (contentsOf s staging) page entry .contents)
       → ((other : ℕ) → lookUp other (dirtyOf r frames) ≡ lookUp other (cleanStore c s log home pages (contentsOf s []) page entry .dirtyPages))
       → CleanSteps s log home frames (doneWith r) log′ home′
-  step-by c r log′ home′ e so l h k d =
+  step-by c r log′ home′ e so l h t k d =
       clean-accepts s log home frames (doneWith r) log′ home′ accepts refl
       (record {
         page = page;
         entry = entry;
         found = page-found;
         takes = takes-by (s .cleaning) (chosen .takes);
-        answerIs = refl;
         staysSound = so;
         logIs = l ∙ ap (λ (x : Cleaning). cleanStore x s log home pages (contentsOf s []) page entry .log) (sym e);
         homeIs = h ∙ ap (λ (x : Cleaning). cleanStore x s log home pages (contentsOf s []) page entry .home) (sym e);
+        stateIs = t ∙ ap (λ (x : Cleaning). cleanStore x s log home pages (contentsOf s []) page entry .state) (sym e);
         contentsAre = λ staging. k staging ∙ ap (λ (x : Cleaning). cleanStore x s log home pages (contentsOf s staging) page entry .contents) (sym e);
         dirtyAre = λ other. d other ∙ ap (λ (x : Cleaning). lookUp other (cleanStore x s log home pages (contentsOf s []) page entry .dirtyPages)) (sym e);
       })
@@ -136,29 +141,29 @@ module _ (s : State) (log home frames : List ℕ) (accepts : cleanRefusalOf s lo
   page-named : member page (dirtyNumbers (s .dirty)) ≡ true
   page-named = held-named (tableOf s) frames pages (sound-holds s frames (tests-passed .isSound)) page entry page-found
 
-  half-sound : (c : Cleaning) (r : State) → names c (dirtyNumbers (s .dirty)) ≡ true → r ≡ cleaningTo s c → sound r ≡ true
+  half-sound : (c : Cleaning) (r : State) → names c (dirtyNumbers (s .dirty)) ≡ true → r ≡ setCleaning s c → sound r ≡ true
   half-sound c r n e = of-sound r (subst Sound (sym e) (sound-cleaning s c facts n))
 
   module _ (r : State) (home′ : List ℕ) where
-    pub idle-steps : s .cleaning ≡ Idle → r ≡ cleaningTo s (Second page) → home′ ≡ withFirstHalf home page (firstHalf (pageAt frames frame))
+    pub idle-steps : s .cleaning ≡ Idle → r ≡ setCleaning s (Second page) → home′ ≡ withFirstHalf home page (firstHalf (pageAt frames frame))
         → CleanSteps s log home frames (doneWith r) log home′
     unfolding cleanStore
     idle-steps e t h =
-        step-by Idle r log home′ e (half-sound (Second page) r page-named t) refl h (λ staging. ap (λ (x : State). contentsOf x staging) t)
+        step-by Idle r log home′ e (half-sound (Second page) r page-named t) refl h t (λ staging. ap (λ (x : State). contentsOf x staging) t)
         (λ other. ap (λ (x : State). lookUp other (dirtyOf x frames)) t)
 
-    pub first-steps : (named : ℕ) → s .cleaning ≡ First named → r ≡ cleaningTo s (Second page) → home′ ≡ withFirstHalf home page (firstHalf (pageAt frames frame))
+    pub first-steps : (named : ℕ) → s .cleaning ≡ First named → r ≡ setCleaning s (Second page) → home′ ≡ withFirstHalf home page (firstHalf (pageAt frames frame))
         → CleanSteps s log home frames (doneWith r) log home′
     unfolding cleanStore
     first-steps named e t h =
-        step-by (First named) r log home′ e (half-sound (Second page) r page-named t) refl h (λ staging. ap (λ (x : State). contentsOf x staging) t)
+        step-by (First named) r log home′ e (half-sound (Second page) r page-named t) refl h t (λ staging. ap (λ (x : State). contentsOf x staging) t)
         (λ other. ap (λ (x : State). lookUp other (dirtyOf x frames)) t)
 
-    pub second-steps : (named : ℕ) → s .cleaning ≡ Second named → r ≡ cleaningTo s (Third page) → home′ ≡ withSecondHalf home page (secondHalf (pageAt frames frame))
+    pub second-steps : (named : ℕ) → s .cleaning ≡ Second named → r ≡ setCleaning s (Third page) → home′ ≡ withSecondHalf home page (secondHalf (pageAt frames frame))
         → CleanSteps s log home frames (doneWith r) log home′
     unfolding cleanStore
     second-steps named e t h =
-        step-by (Second named) r log home′ e (half-sound (Third page) r page-named t) refl h (λ staging. ap (λ (x : State). contentsOf x staging) t)
+        step-by (Second named) r log home′ e (half-sound (Third page) r page-named t) refl h t (λ staging. ap (λ (x : State). contentsOf x staging) t)
         (λ other. ap (λ (x : State). lookUp other (dirtyOf x frames)) t)
 
   -- the sequence of a clean block that is accepted
@@ -174,6 +179,9 @@ module _ (s : State) (log home frames : List ℕ) (accepts : cleanRefusalOf s lo
       let few = facts .frames .1 in
       (chosen .below, few, omega (arith, facts .slots .0), facts .slots .1, omega arith, omega (arith, facts .sequenceSum, n), chosen .used)
 
+  page-of : isOf page (getD (s .dirty) frame free) ≡ true
+  page-of = rw (ne-eqb _ _ (chosen .used), eq-eqb page page refl)
+
   pub third-steps : (named : ℕ) (r : State) (log′ : List ℕ) → s .cleaning ≡ Third named → Cleaned s log frame r log′ → CleanSteps s log home frames (doneWith r) log′ home
   unfolding cleanStore
   third-steps named r log′ e m =
@@ -182,18 +190,38 @@ module _ (s : State) (log home frames : List ℕ) (accepts : cleanRefusalOf s lo
       step-by (Third named) r log′ home e
       (of-sound r (subst Sound (sym (m .stateIs)) (sound-clean s frames page entry (r .dirty) facts (p .0) (p .1) page-found held)))
       (m .logIs ∙ ap (λ (n : ℕ). stored (s .slots) log (s .next) (record { kind = clean page; keepFrom = n; ticket = s .ticket })) (held-keep (tableWith s (r .dirty)) frames (without page pages) held (s .next)))
-      refl (λ staging. ap (λ (x : State). contentsOf x staging) (m .stateIs)) (held .looks)
+      refl
+      (m .stateIs ∙ ap (cleanDone s) (m .dirtyIs ∙ freed-is page frame (s .dirty) (facts .distinctPages) page-of))
+      (λ staging. ap (λ (x : State). contentsOf x staging) (m .stateIs)) (held .looks)
 
 -- ---- THE WHOLE STEP: the answer with the refusal's number, and the change made to the state
 
-done-by : (answer : Answer) → refusalIn answer ≡ 0 → answer ≡ Done
-done-by (Refused refusal) e = absurd (omega (arith, numbered refusal))
-done-by Done e = refl
-
-pub answered : (s : State) (log home frames : List ℕ) (change : Change) (answer : Answer) (log′ home′ : List ℕ) → refusalIn answer ≡ cleanRefusalOf s log home frames
-    → Changes s log home frames change log′ home′ → CleanSteps s log home frames (record { state = changed s change; answer = answer }) log′ home′
-answered s log home frames change answer log′ home′ e m = record {
-  refusal = e;
+pub answered-by : (s : State) (log home frames : List ℕ) (change : Change) (answer : Answer) (log′ home′ : List ℕ)
+    → numberIn (answered answer) ≡ cleanRefusalOf s log home frames → Changes s log home frames change log′ home′
+    → CleanSteps s log home frames (record { state = changed s change; answer = answer }) log′ home′
+answered-by s log home frames change answer log′ home′ e m = record {
+  answerIs = whole answer e;
   refused = m .refused;
-  accepted = λ z. subst (λ (a : Answer). CleanStep s log home frames (record { state = changed s change; answer = a }) log′ home′) (sym (done-by answer (e ∙ z))) (m .accepted z .accepted z);
+  accepted = λ z. as-done (m .accepted z .accepted z);
 }
+  where
+    whole : (a : Answer) → numberIn (answered a) ≡ cleanRefusalOf s log home frames → answered a ≡ replied (cleanRefusalOf s log home frames) done
+    whole (Refused refusal) e =
+        ap refuses e ∙ sym (replied-refused (cleanRefusalOf s log home frames) done (λ z. omega (arith, numbered refusal, e)))
+    whole Done e = sym (replied-accepted (cleanRefusalOf s log home frames) done (sym e))
+
+    -- what the step leaves does not depend on the answer
+    as-done : CleanStep s log home frames (doneWith (changed s change)) log′ home′
+        → CleanStep s log home frames (record { state = changed s change; answer = answer }) log′ home′
+    as-done c = record {
+      page = c .page;
+      entry = c .entry;
+      found = c .found;
+      takes = c .takes;
+      staysSound = c .staysSound;
+      logIs = c .logIs;
+      homeIs = c .homeIs;
+      stateIs = c .stateIs;
+      contentsAre = c .contentsAre;
+      dirtyAre = c .dirtyAre;
+    }

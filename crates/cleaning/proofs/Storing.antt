@@ -28,19 +28,19 @@ use Rattle.promises.proofs.Soundness.{Sound}
 use Rattle.promises.proofs.SoundFacts.{length-dirty, keepFrom-dirty}
 use Rattle.promises.proofs.Changes.{below-more, held-is, smallest-le}
 use Rattle.promises.proofs.History.Whole.{without-less}
-use Rattle.table.specs.Search.{free, isOf}
+use Rattle.promises.specs.States.{free, isOf}
 use Rattle.table.specs.Table.{Holds}
 use Rattle.table.proofs.Applying.{drops-of}
 use Rattle.table.proofs.Holding.{held-count, held-keep, Each, Below, each-without, held-below}
 use Rattle.stepping.specs.Tables.{tableWith, tableOf}
 use Rattle.stepping.proofs.Held.{each-below, each-oldest, oldest-each}
-use Rattle.cleaning.specs.Cleans.{entryAt, stateWith, cleanDone, Cleaned}
+use Rattle.cleaning.specs.Cleans.{entryAt, stateAfter, cleanDone, Cleaned}
 
 -- ---- a change that keeps every entry
 
 pub entry-kept : (s : State) (frame : ℕ) (entry : Dirty) → entry ≡ entryAt s frame → (next : ℕ) (c : Cleaning)
-    → stateWith s (set (s .dirty) frame entry) next c ≡ stateWith s (s .dirty) next c
-entry-kept s frame entry e next c = ap (λ (ds : List Dirty). stateWith s ds next c) (ap (set (s .dirty) frame) e ∙ set-getD (s .dirty) frame free)
+    → stateAfter s (set (s .dirty) frame entry) next c ≡ stateAfter s (s .dirty) next c
+entry-kept s frame entry e next c = ap (λ (ds : List Dirty). stateAfter s ds next c) (ap (set (s .dirty) frame) e ∙ set-getD (s .dirty) frame free)
 
 -- ---- the halves
 
@@ -67,6 +67,7 @@ pub cleaned-by : (s : State) (log log′ none : List ℕ) (frame page keep : ℕ
 unfolding written
 cleaned-by s log log′ none frame page keep block p below long used k b z l = record {
   stateIs = refl;
+  dirtyIs = refl;
   logIs =
       l ∙ ap (λ (x : Block). withSlot log (slotOf (s .slots) (x .sequence)) (layout x none)) b
       ∙ ap (λ (x : List ℕ). withSlot log (slotOf (s .slots) (s .next)) (layout (cleanBlock (s .next) keep page (s .ticket)) x)) z

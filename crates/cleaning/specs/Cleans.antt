@@ -17,7 +17,7 @@ use Rattle.promises.specs.DirtyPages.{DirtyPage, without}
 use Rattle.promises.specs.Sums.{firstGroups, smallest}
 use Rattle.promises.specs.CleanStep.{cleanRefusalOf, CleanSteps}
 use Rattle.block.specs.Sizes.{pageSize}
-use Rattle.table.specs.Search.{free}
+use Rattle.promises.specs.States.{free, setBlock, setDirty, setCleaning}
 use Rattle.table.specs.Table.{Holds}
 use Rattle.stepping.specs.Tables.{tableWith, tableOf}
 use Rattle.cleaning.specs.declared.Change.{Change}
@@ -56,31 +56,17 @@ pub record Chosen (state : State) (frame : ℕ) : Type 0 where
   pub used : entryAt state frame .first ≡ 0 → ⊥
   pub takes : TakesFrame (state .cleaning) state frame
 
--- the state with these dirty pages, this next sequence and this cleaning
-abbrev pub stateWith : State → List Dirty → ℕ → Cleaning → State
-stateWith state dirty next cleaning = record {
-  pages = state .pages;
-  slots = state .slots;
-  frames = state .frames;
-  next = next;
-  ticket = state .ticket;
-  dirty = dirty;
-  staged = state .staged;
-  groups = state .groups;
-  queued = state .queued;
-  stored = state .stored;
-  reserved = state .reserved;
-  described = state .described;
-  cleaning = cleaning;
-}
+-- the state with these entries of the frames, this next sequence and this cleaning
+abbrev pub stateAfter : State → List Dirty → ℕ → Cleaning → State
+stateAfter state dirty next cleaning = setCleaning (setBlock (setDirty state dirty) next (state .ticket)) cleaning
 
 -- the state once a page's clean block is stored and these pages are dirty
 abbrev pub cleanDone : State → List Dirty → State
-cleanDone state dirty = stateWith state dirty (state .next + 1) Idle
+cleanDone state dirty = stateAfter state dirty (state .next + 1) Idle
 
 -- the state with one entry, the next sequence and the cleaning as a step changes them
 abbrev pub changed : State → Change → State
-changed state change = stateWith state (set (state .dirty) (change .frame) (change .entry)) (change .next) (change .cleaning)
+changed state change = stateAfter state (set (state .dirty) (change .frame) (change .entry)) (change .next) (change .cleaning)
 
 -- what a half's store leans on: the page at home and the frame lie within the areas
 pub record Fitting (state : State) (home frames frame : ℕ) : Type 0 where
@@ -92,6 +78,7 @@ pub record Fitting (state : State) (home frames frame : ℕ) : Type 0 where
 -- what the clean block of a frame's page leaves: the page is dropped, and keep-from goes over those that stay dirty
 pub record Cleaned (state : State) (log : List ℕ) (frame : ℕ) (result : State) (log′ : List ℕ) : Type 0 where
   pub stateIs : result ≡ cleanDone state (result .dirty)
+  pub dirtyIs : result .dirty ≡ set (state .dirty) frame free
   pub logIs : log′ ≡ stored (state .slots) log (state .next) (record {
     kind = clean (entryAt state frame .page);
     keepFrom = smallest (state .next) (firstGroups (result .dirty));

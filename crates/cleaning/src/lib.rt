@@ -11,7 +11,7 @@ ghost use mathlib.Core.Path.{_≡_};
 ghost use mathlib.Core.Bool.{true};
 ghost use Prim.Native.Nat.{ℕ, _+_, _*_, _^_, _≤_, _<_};
 ghost use lib.ListN.{length, set};
-ghost use Rattle.promises.specs.Answers.{refusalIn};
+ghost use Rattle.promises.specs.Answers.{numberIn, answered};
 ghost use Rattle.promises.specs.Areas.{logLength, pageAt, firstHalf, secondHalf, withFirstHalf, withSecondHalf};
 ghost use Rattle.promises.specs.Sums.{dirtyCount, firstGroups, smallest};
 ghost use Rattle.promises.specs.Sound.{sound};
@@ -19,8 +19,7 @@ ghost use Rattle.soundness.specs.Summed.{Summed, Small};
 ghost use Rattle.soundness.specs.Verdicts.{Judges};
 ghost use Rattle.promises.specs.CleanStep.{thirdRefusal, cleanRefusal, cleanRefusalOf, CleanSteps};
 ghost use Rattle.promises.specs.declared.Cleaning.the-variants.{Second, Third};
-ghost use Rattle.promises.proofs.Changes.{cleaningTo};
-ghost use Rattle.table.specs.Search.{free};
+ghost use Rattle.promises.specs.States.{free, setCleaning};
 ghost use Rattle.cleaning.specs.Cleans.{entryAt, rankIn, namedIn, Chosen, Fitting, changed, Cleaned, doneWith, Changes};
 
 // A page's number as a count.
@@ -87,7 +86,7 @@ pub fn clean_refusal(
 // The answer with one of the numbers of Clean step.
 pub fn answer_of(number: u64) -> Answer
     requires { ⌜ ((number ≡ 0 → ⊥) → (number ≡ 1 → ⊥) → (number ≡ 2 → ⊥) → (number ≡ 6 → ⊥) → (number ≡ 10 → ⊥) → number ≡ 11) ⌝ }
-    ensures { λ r. ⌜ refusalIn r ≡ number ⌝ }
+    ensures { λ r. ⌜ numberIn (answered r) ≡ number ⌝ }
 {
     if number == 0 {
         return Answer::Done;
@@ -180,7 +179,7 @@ pub struct Change {
 // Stores the first half of a frame's page at home; the second half is next.
 pub fn store_first(state: State, home: &mut [u8], frames: &[u8], choice: Choice) -> Change
     requires { ⌜ Fitting state (length (now home)) (length (now frames)) (choice .frame) × (choice .entry ≡ entryAt state (choice .frame)) ⌝ }
-    ensures { λ r. ⌜ (r .frame ≡ choice .frame) × (changed state r ≡ cleaningTo state (Second (entryAt state (choice .frame) .page))) × (now (home .exit) ≡ withFirstHalf (now (home .entry)) (entryAt state (choice .frame) .page) (firstHalf (pageAt (now (frames .entry)) (choice .frame)))) ⌝ }
+    ensures { λ r. ⌜ (r .frame ≡ choice .frame) × (changed state r ≡ setCleaning state (Second (entryAt state (choice .frame) .page))) × (now (home .exit) ≡ withFirstHalf (now (home .entry)) (entryAt state (choice .frame) .page) (firstHalf (pageAt (now (frames .entry)) (choice .frame)))) ⌝ }
 {
     let frame = choice.frame;
     let entry = choice.entry;
@@ -199,7 +198,7 @@ pub fn store_first(state: State, home: &mut [u8], frames: &[u8], choice: Choice)
 // Stores the second half of a frame's page at home; the clean block is next.
 pub fn store_second(state: State, home: &mut [u8], frames: &[u8], choice: Choice) -> Change
     requires { ⌜ Fitting state (length (now home)) (length (now frames)) (choice .frame) × (choice .entry ≡ entryAt state (choice .frame)) ⌝ }
-    ensures { λ r. ⌜ (r .frame ≡ choice .frame) × (changed state r ≡ cleaningTo state (Third (entryAt state (choice .frame) .page))) × (now (home .exit) ≡ withSecondHalf (now (home .entry)) (entryAt state (choice .frame) .page) (secondHalf (pageAt (now (frames .entry)) (choice .frame)))) ⌝ }
+    ensures { λ r. ⌜ (r .frame ≡ choice .frame) × (changed state r ≡ setCleaning state (Third (entryAt state (choice .frame) .page))) × (now (home .exit) ≡ withSecondHalf (now (home .entry)) (entryAt state (choice .frame) .page) (secondHalf (pageAt (now (frames .entry)) (choice .frame)))) ⌝ }
 {
     let frame = choice.frame;
     let entry = choice.entry;

@@ -10,14 +10,15 @@ use Rattle.promises.specs.Open.{Opens}
 use Rattle.promises.specs.Describe.{Describes}
 use Rattle.promises.specs.LogStep.{LogSteps}
 use Rattle.promises.specs.CleanStep.{CleanSteps}
-use Rattle.promises.specs.Events.{World, Call, opening, begin, describe, ending, logStep, cleanStep, reading, settling, Reply, Step}
-use Rattle.promises.specs.Corollaries.{StaysSettled, AllOrNothing, NoTrace, OpensAlike}
+use Rattle.promises.specs.Events.{World, Call, opening, begin, describe, ending, logStep, cleanStep, reading, settling, Step}
+use Rattle.promises.specs.Answers.{Reply}
+use Rattle.promises.specs.Corollaries.{EveryReply, StaysSettled, AllOrNothing, NoTrace, OpensAlike}
 use Rattle.promises.specs.SilentLoss.{NoSilentLoss, SettledStored, NoOtherPages}
 use Rattle.promises.specs.Alike.{CallsAlike, DesksAlike}
 use Rattle.promises.specs.Waiting.{WaitBound}
 use Rattle.promises.proofs.Accounts.{book-accounts}
 use Rattle.promises.proofs.Refines.{Refines, demand-three-by}
-use Rattle.promises.proofs.Corollaries.{stays-settled, all-or-nothing, no-trace, opens-alike}
+use Rattle.promises.proofs.Corollaries.{every-reply, stays-settled, all-or-nothing, no-trace, opens-alike}
 use Rattle.promises.proofs.SilentLoss.{no-silent-loss, settled-stored, no-other-pages}
 use Rattle.promises.proofs.DesksAlike.{calls-alike, desks-alike}
 use Rattle.promises.proofs.WaitBound.{wait-bound}
@@ -97,6 +98,10 @@ durable = demand-three-by shipped keeps-promises
 
 pub accounted : Accounted
 accounted = book-accounts shipped
+
+-- every accepted reply inside a run is the book's, as it was before that call
+pub replies-the-book : EveryReply shipped
+replies-the-book = every-reply shipped keeps-promises
 
 -- a settled ticket stays settled over every cut
 pub settled-stays : StaysSettled shipped

@@ -13,26 +13,8 @@ use Rattle.promises.specs.declared.EndOutcome.{EndOutcome}
 use Rattle.promises.specs.declared.LogOutcome.{LogOutcome}
 use Rattle.promises.specs.declared.OpenOutcome.{OpenOutcome}
 use Rattle.promises.specs.Updates.{Update}
-use Rattle.promises.specs.Events.{
-  World,
-  withState,
-  Call,
-  opening,
-  begin,
-  describe,
-  ending,
-  logStep,
-  cleanStep,
-  reading,
-  settling,
-  Reply,
-  answered,
-  endAnswered,
-  logAnswered,
-  openAnswered,
-  standingAnswered,
-  readAnswered,
-}
+use Rattle.promises.specs.Events.{World, withState, Call, opening, begin, describe, ending, logStep, cleanStep, reading, settling}
+use Rattle.promises.specs.Answers.{Reply, answered, endAnswered, logAnswered, openAnswered, standingAnswered, readAnswered}
 use Rattle.store.proofs.format.Reads as format-entry
 use Rattle.store.proofs.open.Reads as open-entry
 use Rattle.store.proofs.begin.Reads as begin-entry

@@ -1,7 +1,6 @@
 -- Demand 3 of the code as shipped: the runs' steps are what a caller learns of the store's entries.
 -- Assumes nothing.
 use Rattle.promises.specs.Claim.{Steps, Claim, BookClaim}
-use Rattle.promises.specs.Corollaries.{StaysSettled, AllOrNothing, NoTrace, OpensAlike}
 use Rattle.durability.specs.Called.{Formatted, Taken}
 
 -- the store's own steps

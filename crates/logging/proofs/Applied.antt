@@ -23,12 +23,14 @@ use Rattle.promises.proofs.Soundness.{and-both}
 use Rattle.promises.proofs.History.Whole.{length-all}
 use Rattle.table.specs.declared.Table.{Table}
 use Rattle.table.specs.Table.{Holds, Applies, AppliesAll}
-use Rattle.table.specs.Seats.{entryIn, dirtyIn, seated}
+use Rattle.table.specs.Seats.{entryIn, cleared, dirtyIn, seated}
+use Rattle.promises.specs.States.{free}
 use Rattle.table.proofs.Scans.{rest, rest-cons, rest-end}
+use Rattle.table.proofs.Seating.{length-dirty, free-zero}
 use Rattle.table.proofs.Applying.{applies-none, applies-more}
 use Rattle.stepping.specs.Tables.{tableWith, tableOf}
 use Rattle.logging.specs.Logging.{noStaged, sizeOf, groupOf, Placed, oldestGroup, commitAt, Commits}
-use Rattle.logging.proofs.Packing.{seats-hold}
+use Rattle.logging.proofs.Packing.{packed-used, seats-hold}
 
 -- the update that the code hands over is the staged one
 pub staged-applied : (t r : Table) (home frames frames′ staging : List ℕ) (x : Staged) (group at long page offset : ℕ) → at ≡ x .area * 472 → long ≡ x .length
@@ -91,6 +93,7 @@ module _ (staged : List Staged) (size : ℕ) (home staging : List ℕ) (group : 
         go false e = record {
           countIs = refl;
           framesLong = refl;
+          kept = λ f n. refl;
           stays = λ q. (refl, refl);
           fits = λ es q h l. absurd (never-both true refl q);
           fills = λ es q h l. refl;
@@ -98,10 +101,10 @@ module _ (staged : List Staged) (size : ℕ) (home staging : List ℕ) (group : 
 
 -- what the store, the seats and the group's application leave is what the commit leaves
 pub commits-by : (s : State) (log home frames staging log′ frames′ packed seats : List ℕ) (dirty : List Dirty) (fits : Bool) (keep size : ℕ) → size ≡ sizeOf s
-    → length packed ≡ s .frames → map entryIn packed ≡ take (s .frames) (s .dirty) → log′ ≡ stored (s .slots) log (s .next) (commitAt s keep)
+    → s .frames ≤ 32 → length packed ≡ s .frames → map entryIn packed ≡ map cleared (take (s .frames) (s .dirty)) → log′ ≡ stored (s .slots) log (s .next) (commitAt s keep)
     → AppliesAll (seated false packed) home frames (groupOf (s .staged) size staging) (groupStart s) (seated (not fits) seats) frames′
     → dirty ≡ dirtyIn seats → Commits s log home frames staging keep dirty log′ frames′
-commits-by s log home frames staging log′ frames′ packed seats dirty fits keep size n long e l b d =
+commits-by s log home frames staging log′ frames′ packed seats dirty fits keep size n most long e l b d =
     let group : List Update = oldestGroup s staging in
     let es : List DirtyPage = applyAll (groupStart s) (pageAt home) group (dirtyOf s frames) in
     let a : AppliesAll (seated false packed) home frames group (groupStart s) (seated (not fits) seats) frames′ =
@@ -109,6 +112,14 @@ commits-by s log home frames staging log′ frames′ packed seats dirty fits ke
     record {
       logIs = l;
       framesLong = a .framesLong;
+      fills = λ full inside. record {
+        count = ap length d ∙ length-dirty seats (omega (arith, a .countIs, most)) ∙ sym full;
+        kept = λ f used.
+            let e′ : getD (dirtyIn packed) f free ≡ getD (s .dirty) f free = packed-used (s .dirty) (s .frames) packed long e f (inside f used) used in
+            ap (λ (x : List Dirty). getD x f free) d
+            ∙ a .kept f (λ z. used (ap (λ (x : Dirty). x .first) (sym e′) ∙ z)) ∙ e′;
+        freeZero = λ f. subst (λ (x : List Dirty). getD x f free .first ≡ 0 → getD x f free ≡ free) (sym d) (free-zero seats f);
+      };
       holds = λ h few.
           let room : length es ≤ length packed =
           omega (

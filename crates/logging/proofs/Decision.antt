@@ -22,7 +22,7 @@ use Rattle.promises.proofs.Soundness.{and-both, Sound, sound-of}
 use Rattle.promises.proofs.Changes.{pick-zero, pick-other, held-is, smallest-le}
 use Rattle.soundness.specs.declared.sums.Sums.{Sums}
 use Rattle.soundness.specs.Summed.{Summed}
-use Rattle.table.specs.Search.{free}
+use Rattle.promises.specs.States.{free}
 use Rattle.table.proofs.Entries.{first-below}
 use Rattle.queue.specs.Queue.{commitDone}
 use Rattle.queue.proofs.Leaving.{groups-left}

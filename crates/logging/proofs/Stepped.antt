@@ -18,15 +18,17 @@ use Rattle.promises.specs.Blocks.{update, commit, stored}
 use Rattle.promises.specs.DirtyPages.{keepFromOf}
 use Rattle.promises.specs.Contents.{waiting, total, queueOf, dirtyOf}
 use Rattle.promises.specs.Sums.{firstGroups, groupStart, smallest}
-use Rattle.promises.specs.LogStep.{noUpdate, updateBlock, commitBlock, dirtyAfter, logRefusalOf, UpdateStep, LogSteps}
+use Rattle.promises.specs.States.{stateWith}
+use Rattle.promises.specs.LogStep.{noUpdate, updateBlock, commitBlock, dirtyAfter, updateStoredState, commitStoredState, cleaningAfter, shifted, logRefusalOf, UpdateStep, LogSteps}
 use Rattle.promises.proofs.Soundness.{Sound, sound-of, of-sound}
 use Rattle.promises.proofs.SoundFacts.{length-dirty, keepFrom-dirty}
-use Rattle.promises.proofs.Changes.{updateDone, update-met}
+use Rattle.promises.proofs.Changes.{update-met}
 use Rattle.promises.proofs.History.KeepFrom.{keep-applied}
 use Rattle.promises.proofs.Promised.{log-updates, log-commits}
+use Rattle.table.proofs.Entries.{used-below}
 use Rattle.table.proofs.Holding.{sound-holds}
-use Rattle.queue.specs.Queue.{cleaningLeft, shifted, commitDone}
-use Rattle.queue.proofs.Leaving.{queue-left, contents-left}
+use Rattle.queue.specs.Queue.{cleaningLeft, commitDone}
+use Rattle.queue.proofs.Leaving.{queue-left, cleaning-left-is, contents-left}
 use Rattle.logging.specs.Logging.{noStaged, sizeOf, stagedAt, oldestGroup, updateAt, commitAt, Commits}
 use Rattle.logging.proofs.Committing.{sound-commit}
 use Rattle.logging.proofs.Decision.{accepted, Accepted, size-and-rest}
@@ -77,30 +79,23 @@ module _ (s : State) (log home frames staging : List ℕ) (accepts : logRefusalO
       ∙ ap (λ (k : ℕ). record { kind = update (s .stored + 1) (getD group (s .stored) noUpdate); keepFrom = k; ticket = s .ticket }) keep-of
 
   pub update-steps : (log′ : List ℕ) → s .stored < sizeOf s → log′ ≡ stored (s .slots) log (s .next) (updateAt s staging keep)
-      → LogSteps s log home frames staging (record { state = updateDone s; answer = Stored }) log′ frames
+      → LogSteps s log home frames staging (record { state = updateStoredState s; answer = Stored }) log′ frames
   update-steps log′ h l =
-      log-updates s log home frames staging (record { state = updateDone s; answer = Stored }) log′ frames accepts refl group others queue-is (omega (arith, group-long))
-      (subst (λ (x : List ℕ). UpdateStep s group log frames staging (record { state = updateDone s; answer = Stored }) x frames)
+      log-updates s log home frames staging (record { state = updateStoredState s; answer = Stored }) log′ frames accepts group others queue-is (omega (arith, group-long))
+      (subst (λ (x : List ℕ). UpdateStep s group log frames staging (record { state = updateStoredState s; answer = Stored }) x frames)
       (sym (l ∙ ap (stored (s .slots) log (s .next)) (update-is h)))
       (update-met s group others log frames staging (tests-passed .isSound) queue-is (omega (arith, group-long))))
 
   -- ---- the commit
   abbrev withQueue : List Dirty → List Staged → List ℕ → Cleaning → State
-  withQueue dirty staged groups cleaning = record {
-    pages = s .pages;
-    slots = s .slots;
-    frames = s .frames;
-    next = s .next + 1;
-    ticket = s .ticket + 1;
-    dirty = dirty;
-    staged = staged;
-    groups = groups;
-    queued = s .queued - 1;
-    stored = 0;
-    reserved = s .reserved;
-    described = s .described;
-    cleaning = cleaning;
-  }
+  withQueue dirty staged groups cleaning =
+      stateWith s (s .next + 1) (s .ticket + 1) dirty staged groups (s .queued - 1) 0 (s .reserved) (s .described) cleaning
+
+  -- the state that the promise names
+  state-is : (dirty : List Dirty) → commitDone s dirty (sizeOf s) ≡ commitStoredState s group dirty
+  state-is dirty =
+      ap (withQueue dirty (shifted (s .staged) (sizeOf s)) (shifted (s .groups) 1)) (cleaning-left-is staging (sizeOf s) (s .staged) (s .cleaning))
+      ∙ ap (λ (n : ℕ). withQueue dirty (shifted (s .staged) n) (shifted (s .groups) 1) (cleaningAfter group (s .cleaning))) (sym group-long)
 
   commit-is : commitAt s keep ≡ commitBlock s group (dirtyAfter s group home frames)
   commit-is =
@@ -108,30 +103,32 @@ module _ (s : State) (log home frames staging : List ℕ) (accepts : logRefusalO
       ∙ ap (λ (k : ℕ). record { kind = commit (length group); keepFrom = k; ticket = s .ticket + 1 })
       (keep-of ∙ sym (keep-applied (groupStart s) (pageAt home) group (dirtyOf s frames)))
 
-  commit-met : (dirty : List Dirty) (log′ frames′ : List ℕ) → sizeOf s ≤ s .stored → Commits s log home frames staging keep dirty log′ frames′
+  commit-met : (dirty : List Dirty) (log′ frames′ : List ℕ) → length (s .dirty) ≡ 32 → sizeOf s ≤ s .stored → Commits s log home frames staging keep dirty log′ frames′
       → LogSteps s log home frames staging (record { state = commitDone s dirty (sizeOf s); answer = Settled (s .ticket + 1) }) log′ frames′
-  commit-met dirty log′ frames′ h m =
+  commit-met dirty log′ frames′ full h m =
       let r : State = commitDone s dirty (sizeOf s) in
       let room : length (dirtyOf s frames) + sizeOf s ≤ s .frames =
       omega (arith, facts .frameSum, length-dirty frames 0 (s .dirty), ap total (size-and-rest s facts some)) in
       let held = m .holds (sound-holds s frames (tests-passed .isSound)) room in
-      log-commits s log home frames staging (record { state = r; answer = Settled (s .ticket + 1) }) log′ frames′ accepts refl group others queue-is (omega (arith, group-long))
+      log-commits s log home frames staging (record { state = r; answer = Settled (s .ticket + 1) }) log′ frames′ accepts group others queue-is (omega (arith, group-long))
       (record {
         answerIs = refl;
         logIs = m .logIs ∙ ap (stored (s .slots) log (s .next)) commit-is;
         framesLong = m .framesLong;
+        fills = m .fills full (λ f used. used-below (s .frames) (s .dirty) f (facts .framesBelow) used);
+        stateIs = state-is dirty;
         staysSound = of-sound r (sound-commit s facts some h (pageAt home) frames frames′ staging dirty held);
         contentsAre = contents-left s dirty staging group others facts some queue-is;
         dirtyAre = held .looks;
       })
 
   -- the state with the group's size, and with the queue and the cleaning that the code puts in
-  pub commit-steps : (dirty : List Dirty) (log′ frames′ : List ℕ) (size : ℕ) (staged : List Staged) (groups : List ℕ) (cleaning : Cleaning) → size ≡ sizeOf s
+  pub commit-steps : (dirty : List Dirty) (log′ frames′ : List ℕ) (size : ℕ) (staged : List Staged) (groups : List ℕ) (cleaning : Cleaning) → length (s .dirty) ≡ 32 → size ≡ sizeOf s
       → staged ≡ shifted (s .staged) size → groups ≡ shifted (s .groups) 1 → cleaning ≡ cleaningLeft (take size (s .staged)) (s .cleaning)
       → sizeOf s ≤ s .stored → Commits s log home frames staging keep dirty log′ frames′
       → LogSteps s log home frames staging (record { state = withQueue dirty staged groups cleaning; answer = Settled (s .ticket + 1) }) log′ frames′
-  commit-steps dirty log′ frames′ size staged groups cleaning n a b c h m =
+  commit-steps dirty log′ frames′ size staged groups cleaning full n a b c h m =
       subst (λ (x : State). LogSteps s log home frames staging (record { state = x; answer = Settled (s .ticket + 1) }) log′ frames′)
       (sym (ap (λ (x : List Staged). withQueue dirty x groups cleaning) a ∙ ap (λ (x : List ℕ). withQueue dirty (shifted (s .staged) size) x cleaning) b
       ∙ ap (withQueue dirty (shifted (s .staged) size) (shifted (s .groups) 1)) c ∙ ap (commitDone s dirty) n))
-      (commit-met dirty log′ frames′ h m)
+      (commit-met dirty log′ frames′ full h m)

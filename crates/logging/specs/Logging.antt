@@ -14,7 +14,7 @@ use Rattle.promises.specs.Blocks.{LogBlock, update, commit, stored}
 use Rattle.promises.specs.DirtyPages.{applyAll}
 use Rattle.promises.specs.Contents.{waiting, dirtyOf}
 use Rattle.promises.specs.Sums.{groupStart}
-use Rattle.table.specs.Search.{free}
+use Rattle.promises.specs.States.{free, Fills}
 use Rattle.table.specs.Table.{Holds}
 use Rattle.stepping.specs.Tables.{tableWith}
 
@@ -87,6 +87,8 @@ commitAt state keepFrom = record { kind = commit (sizeOf state); keepFrom = keep
 pub record Commits (state : State) (log home frames staging : List ℕ) (keepFrom : ℕ) (dirty : List Dirty) (log′ frames′ : List ℕ) : Type 0 where
   pub logIs : log′ ≡ stored (state .slots) log (state .next) (commitAt state keepFrom)
   pub framesLong : length frames′ ≡ length frames
+  pub fills : length (state .dirty) ≡ 32 → ((frame : ℕ) → (getD (state .dirty) frame free .first ≡ 0 → ⊥) → frame < state .frames)
+      → Fills (state .dirty) dirty
   pub holds : Holds (tableWith state (state .dirty)) frames (dirtyOf state frames)
       → length (dirtyOf state frames) + sizeOf state ≤ state .frames
       → Holds (tableWith state dirty) frames′ (applyAll (groupStart state) (pageAt home) (oldestGroup state staging) (dirtyOf state frames))

@@ -16,8 +16,8 @@ ghost use Rattle.promises.specs.Blocks.{stored};
 ghost use Rattle.promises.specs.Contents.{waiting};
 ghost use Rattle.promises.specs.Sound.{sound};
 ghost use Rattle.promises.specs.LogStep.{logRefusal};
-ghost use Rattle.table.specs.Search.{free};
-ghost use Rattle.table.specs.Seats.{entryIn, seated};
+ghost use Rattle.promises.specs.States.{free};
+ghost use Rattle.table.specs.Seats.{cleared, entryIn, seated};
 ghost use Rattle.table.specs.Table.{Applies, AppliesAll};
 ghost use Rattle.logging.specs.Logging.{noStaged, sizeOf, groupOf, Placed, Lent, Ready, updateAt, Commits};
 ghost use Rattle.promises.specs.Areas.{homeLength, framesLength, pagesIn};
@@ -109,7 +109,7 @@ pub fn store_update(state: State, log: &mut [u8], staging: &[u8], keep_from: u64
 // The dirty pages of a state as seats, a number for each frame.
 fn pack(dirty: [Dirty; 32], seats: &mut [u64])
     requires { ⌜ (length (now seats) ≤ 32) × ((i : ℕ) → getD dirty i free .first < sequenceEnd) ⌝ }
-    ensures { λ _. ⌜ (length (now (seats .exit)) ≡ length (now (seats .entry))) × (map entryIn (now (seats .exit)) ≡ take (length (now (seats .entry))) dirty) ⌝ }
+    ensures { λ _. ⌜ (length (now (seats .exit)) ≡ length (now (seats .entry))) × (map entryIn (now (seats .exit)) ≡ map cleared (take (length (now (seats .entry))) dirty)) ⌝ }
 {
     let mut i = 0;
     while i < seats.len() {

@@ -3,23 +3,24 @@
 use mathlib.Core.Path.{_≡_, refl, sym, ap, _∙_, subst}
 use mathlib.Core.Bool.{Bool, true, false, cond}
 use mathlib.Core.List.{List, [], _∷_}
-use Prim.Native.Nat.{ℕ, _+_, _-_, _*_, _^_, _≤_}
+use Prim.Native.Nat.{ℕ, zero, suc, _+_, _-_, _*_, _^_, _≤_}
 use native.Mathlib.Omega.{arith}
-use lib.ListN.{length, drop, replicate}
+use lib.ListN.{length, drop, getD, replicate}
 use borrow.Author.Tests.{leb-true, ne-eqb}
 use Rattle.block.proofs.Tests.{tests}
 use Rattle.promises.specs.declared.State.{State}
-use Rattle.promises.specs.declared.Opened.the-variants.{Settled}
+use Rattle.promises.specs.declared.Dirty.{Dirty}
 use Rattle.promises.specs.declared.OpenOutcome.{OpenOutcome}
 use Rattle.promises.specs.Areas.{slotsIn, pagesIn, framesIn}
-use Rattle.promises.specs.Answers.{openRefusalIn, placeIn}
-use Rattle.promises.specs.Contents.{contentsOf, dirtyOf, allZeroState, grouped}
+use Rattle.promises.specs.Answers.{refuses, settles, openAnswered, placeIn}
+use Rattle.promises.specs.Contents.{contentsOf, dirtyOf, grouped}
+use Rattle.promises.specs.States.{free, allZeroState, setDirty, Fills}
 use Rattle.promises.specs.DirtyPages.{DirtyPage, lookUp}
 use Rattle.promises.specs.Newest.{newest}
 use Rattle.promises.specs.Sums.{firstGroups, smallest}
 use Rattle.promises.specs.Sound.{sound, allBelow, dirtyNumbers}
 use Rattle.promises.specs.Walk.{Walk as PaperWalk, stops, stands, finding}
-use Rattle.promises.specs.Open.{lengthsFit, openFinding, opened, OpenStops, OpenStands, Opens}
+use Rattle.promises.specs.Open.{lengthsFit, openFinding, opened, openedState, OpenStops, OpenStands, Opens}
 use Rattle.promises.proofs.Soundness.{Sound, of-sound}
 use Rattle.promises.proofs.OpenFindings.{finding-refusals}
 use Rattle.table.specs.Table.{Holds, Each}
@@ -27,7 +28,6 @@ use Rattle.table.proofs.Entries.{within-most}
 use Rattle.table.proofs.Holding.{held-below, Below}
 use Rattle.recovery.specs.Walking.{Early}
 use Rattle.opening.specs.Findings.{FoundWalk, Accepts, Finds}
-use Rattle.opening.specs.States.{idleState}
 
 -- ---- the lengths
 
@@ -64,6 +64,16 @@ module _ (log home : List ℕ) (count : ℕ) (found : FoundWalk) (frames : List 
 
   pub next-fits : found .walk .refusal ≡ 0 → found .newest + 1 ≤ 2 ^ 48
   next-fits z = omega (arith, x .accepted z .newestBelow)
+
+-- ---- the frames' entries: none was in use before
+
+all-free : (n f : ℕ) → getD (replicate n free) f free .first ≡ 0
+all-free zero f = refl
+all-free (suc n) zero = refl
+all-free (suc n) (suc f) = all-free n f
+
+entries-filled : (dirty : List Dirty) → length dirty ≡ 32 → ((f : ℕ) → getD dirty f free .first ≡ 0 → getD dirty f free ≡ free) → Fills (allZeroState .dirty) dirty
+entries-filled dirty full zeroes = record { count = full; kept = λ f used. absurd (used (all-free 32 f)); freeZero = zeroes }
 
 -- ---- from the finding to the promise
 
@@ -107,9 +117,9 @@ module _ (log home frames staging : List ℕ) (r : OpenOutcome) (frames′ : Lis
   by-lengths b e = ap (λ (c : Bool). cond c (finding (slotsIn (length log)) (pagesIn (length home)) (framesIn (length frames)) log home) (stops 1 0)) e
 
   -- refusal 1 changes nothing
-  pub opens-lengths : lengthsFit (length log) (length home) (length frames) (length staging) ≡ false → openRefusalIn (r .answer) ≡ 1 → placeIn (r .answer) ≡ 0
+  pub opens-lengths : lengthsFit (length log) (length home) (length frames) (length staging) ≡ false → openAnswered (r .answer) ≡ refuses 1 → placeIn (r .answer) ≡ 0
       → r .state ≡ allZeroState → frames′ ≡ frames → Opens log home frames staging r frames′
-  opens-lengths e a p s f = opens-stopped 1 0 (by-lengths false e) record { refusalIs = a; placeIs = p; stateIs = s; framesAre = f }
+  opens-lengths e a p s f = opens-stopped 1 0 (by-lengths false e) record { answerIs = a; placeIs = p; stateIs = s; framesAre = f }
 
   module _ (fit : lengthsFit (length log) (length home) (length frames) (length staging) ≡ true) (found : FoundWalk) (mid : List ℕ)
       (x : Finds log home (framesIn (length frames)) (finding (slotsIn (length log)) (pagesIn (length home)) (framesIn (length frames)) log home) found mid) where
@@ -117,12 +127,12 @@ module _ (log home frames staging : List ℕ) (r : OpenOutcome) (frames′ : Lis
     told = lengths-told (length log) (length home) (length frames) (length staging) fit
 
     -- after 7, 8 and 9 the frames are zero
-    pub opens-refused : (found .walk .refusal ≡ 0 → ⊥) → openRefusalIn (r .answer) ≡ found .walk .refusal → placeIn (r .answer) ≡ found .walk .place
+    pub opens-refused : (found .walk .refusal ≡ 0 → ⊥) → openAnswered (r .answer) ≡ refuses (found .walk .refusal) → placeIn (r .answer) ≡ found .walk .place
         → r .state ≡ allZeroState → length mid ≡ length frames → frames′ ≡ replicate (length mid) 0 → Opens log home frames staging r frames′
     opens-refused n a p s l f =
         opens-stopped (found .walk .refusal) (found .walk .place) (by-lengths true fit ∙ x .refused n)
         record {
-          refusalIs = a;
+          answerIs = a;
           placeIs = p;
           stateIs = s;
           framesAre = f ∙ ap (λ (m : ℕ). replicate m 0) l
@@ -135,7 +145,7 @@ module _ (log home frames staging : List ℕ) (r : OpenOutcome) (frames′ : Lis
       acc = x .accepted z
 
       abbrev state : State
-      state = idleState (pagesIn (length home)) (slotsIn (length log)) (framesIn (length frames)) (found .newest + 1) (found .walk .ticket) (found .walk .table .dirty)
+      state = openedState (pagesIn (length home)) (slotsIn (length log)) (framesIn (length frames)) (found .newest + 1) (found .walk .ticket) (found .walk .table .dirty)
 
       below : (es : List DirtyPage) → Each (Early (pagesIn (length home)) (found .newest + 1)) es → Each (Below (pagesIn (length home)) (found .newest + 1)) es
       below [] e = tt
@@ -179,14 +189,18 @@ module _ (log home frames staging : List ℕ) (r : OpenOutcome) (frames′ : Lis
         sequenceSum = omega (arith, acc .newestBelow);
       }
 
-      pub opens-accepted : r .answer ≡ Settled (found .walk .ticket) → r .state ≡ state → length mid ≡ length frames → frames′ ≡ mid
+      pub opens-accepted : openAnswered (r .answer) ≡ settles (found .walk .ticket) → r .state ≡ state → length (found .walk .table .dirty) ≡ 32
+          → ((f : ℕ) → getD (found .walk .table .dirty) f free .first ≡ 0 → getD (found .walk .table .dirty) f free ≡ free) → length mid ≡ length frames → frames′ ≡ mid
           → Opens log home frames staging r frames′
       unfolding grouped
-      opens-accepted a s l f =
+      opens-accepted a s full zeroes l f =
           opens-standing (found .newest + 1) (acc .paper) (by-lengths true fit ∙ acc .foundIs)
           record {
-            answerIs = a ∙ ap Settled (acc .standsFor .ticketIs);
+            answerIs = a ∙ ap settles (acc .standsFor .ticketIs);
             framesLong = ap length f ∙ l;
+            fills = subst (λ (y : State). Fills (allZeroState .dirty) (y .dirty)) (sym s) (entries-filled (found .walk .table .dirty) full zeroes);
+            stateIs = s ∙ ap (λ (y : State). setDirty state (y .dirty)) (sym s)
+                ∙ ap (λ (t : ℕ). openedState (pagesIn (length home)) (slotsIn (length log)) (framesIn (length frames)) (found .newest + 1) t (r .state .dirty)) (acc .standsFor .ticketIs);
             staysSound = ap sound s ∙ of-sound state sound-facts;
             contentsAre = λ staging′. ap (λ (y : State). contentsOf y staging′) s
                 ∙ ap (opened (pagesIn (length home)) (slotsIn (length log)) (framesIn (length frames)) (found .newest + 1)) (acc .standsFor .ticketIs);

@@ -3,4 +3,3 @@ pub mod Ending
 pub mod Lending
 pub mod Reading
 pub mod Answering
-pub mod Alike

@@ -15,13 +15,12 @@ ghost use lib.Dec.{eqb};
 ghost use lib.ListN.{length, replicate};
 ghost use Rattle.block.specs.Sizes.{blockSize, pageSize, sequenceEnd};
 ghost use Rattle.promises.specs.Areas.{slotsIn, pagesIn, framesIn, pageAt};
-ghost use Rattle.promises.specs.Answers.{numberOf, openRefusalIn, placeIn};
-ghost use Rattle.promises.specs.Contents.{allZeroState};
+ghost use Rattle.promises.specs.Answers.{refuses, numberOf, openAnswered, placeIn};
+ghost use Rattle.promises.specs.States.{allZeroState};
 ghost use Rattle.promises.specs.Walk.{walkFrom, startWith, finding};
-ghost use Rattle.promises.specs.Open.{lengthsFit, Opens};
+ghost use Rattle.promises.specs.Open.{lengthsFit, Opens, openedState};
 ghost use Rattle.recovery.specs.Log.{blocksFrom, Legal};
 ghost use Rattle.opening.specs.Findings.{stageStart, foundStopped, foundOf, Finds};
-ghost use Rattle.opening.specs.States.{idleState};
 
 // What was found in a log: where the walk ended, and the newest sequence.
 pub struct Found {
@@ -149,7 +148,7 @@ fn idle(
     ticket: u64,
     dirty: [Dirty; 32],
 ) -> State
-    ensures { λ r. ⌜ r ≡ idleState pages slots frames next ticket dirty ⌝ }
+    ensures { λ r. ⌜ r ≡ openedState pages slots frames next ticket dirty ⌝ }
 {
     State {
         pages,
@@ -189,7 +188,7 @@ fn refusal_of(number: u64) -> Refusal
 
 // A refused Open: the all-zero state.
 fn refused(refusal: Refusal, place: u64) -> OpenOutcome
-    ensures { λ r. ⌜ (openRefusalIn (r .answer) ≡ numberOf refusal) × (placeIn (r .answer) ≡ place) × (r .state ≡ allZeroState) ⌝ }
+    ensures { λ r. ⌜ (openAnswered (r .answer) ≡ refuses (numberOf refusal)) × (placeIn (r .answer) ≡ place) × (r .state ≡ allZeroState) ⌝ }
 {
     let none = [Dirty { page: 0, first: 0 }; 32];
     OpenOutcome {

@@ -9,10 +9,14 @@ use lib.ListN.{length, length-append}
 use lib.Dec.{eqb, ltb}
 use Rattle.promises.specs.Areas.{pageAt}
 use Rattle.promises.specs.Updates.{Update, redo, ofPage}
-use Rattle.promises.specs.Book.{Book, blank, counted, committed, steppedOver}
-use Rattle.promises.specs.Events.{Sizes, World, Call, opening, begin, describe, ending, logStep, cleanStep, reading, settling, accepts}
+use Rattle.promises.specs.Book.{gone, Book, blank, counted, committed, steppedOver}
+use Rattle.promises.specs.Events.{Sizes, World, Call, opening, begin, describe, ending, logStep, cleanStep, reading, settling}
+use Rattle.promises.specs.Answers.{accepts}
 use Rattle.promises.proofs.History.Sees.{redo-append}
 use Rattle.promises.specs.Claim.{
+  bookedBy,
+  isOpen,
+  leavingBy,
   Steps,
   entered,
   cutAt,
@@ -78,57 +82,37 @@ stepping home gs b k (g ∷ rest) = go (ltb (length g) (b .count + 1))
     go true = one-more home gs g b k
     go false = none-more home gs b k
 
--- a call, accepted or refused
+-- a refused call: the book is as it was, or after an Open without list, queue and count
+call-refused : (home : List ℕ) (gs : List (List Update)) (b : Book) → Counts home gs (b .m) (b .pages) → (c : Call)
+    → Counts home gs (entered c false b .m) (entered c false b .pages)
+call-refused home gs b k c = go (isOpen c)
+  where
+    go : (o : Bool) → Counts home gs (cond {A = Book} o (gone b) b .m) (cond {A = Book} o (gone b) b .pages)
+    go true = k
+    go false = k
+
+-- an accepted one
+call-accepted : (home : List ℕ) (gs : List (List Update)) (b : Book) → Counts home gs (b .m) (b .pages) → (c : Call)
+    → Counts home (gs ++ leavingBy c b) (bookedBy c b .m) (bookedBy c b .pages)
+call-accepted home gs b k (opening frames staging) = none-more home gs b k
+call-accepted home gs b k (begin u) = none-more home gs b k
+call-accepted home gs b k (describe u) = none-more home gs b k
+call-accepted home gs b k ending = none-more home gs b k
+call-accepted home gs b k logStep = stepping home gs b k (b .queue)
+call-accepted home gs b k cleanStep = none-more home gs b k
+call-accepted home gs b k (reading p) = none-more home gs b k
+call-accepted home gs b k (settling t) = none-more home gs b k
+
 on-call : (home : List ℕ) (gs : List (List Update)) (b : Book) → Counts home gs (b .m) (b .pages) → (c : Call) (ok : Bool)
     → Counts home (gs ++ commitsOf c ok b) (entered c ok b .m) (entered c ok b .pages)
-on-call home gs b k (opening frames staging) ok = none-more home gs b k
-on-call home gs b k (begin u) true = none-more home gs b k
-on-call home gs b k (begin u) false = none-more home gs b k
-on-call home gs b k (describe u) true = none-more home gs b k
-on-call home gs b k (describe u) false = none-more home gs b k
-on-call home gs b k ending true = none-more home gs b k
-on-call home gs b k ending false = none-more home gs b k
-on-call home gs b k logStep true = stepping home gs b k (b .queue)
-on-call home gs b k logStep false = none-more home gs b k
-on-call home gs b k cleanStep ok = none-more home gs b k
-on-call home gs b k (reading p) ok = none-more home gs b k
-on-call home gs b k (settling t) ok = none-more home gs b k
+on-call home gs b k c true = call-accepted home gs b k c
+on-call home gs b k c false = none-more home gs (entered c false b) (call-refused home gs b k c)
 
 -- a cut takes list, queue and count
 on-cut : (home : List ℕ) (gs : List (List Update)) (b : Book) → Counts home gs (b .m) (b .pages) → (c : Call) (ok : Bool)
     → Counts home (gs ++ commitsOf c ok b) (cutAt c ok b .m) (cutAt c ok b .pages)
-on-cut home gs b k (opening frames staging) ok = none-more home gs b k
-on-cut home gs b k (begin u) ok = none-more home gs b k
-on-cut home gs b k (describe u) ok = none-more home gs b k
-on-cut home gs b k ending ok = none-more home gs b k
-on-cut home gs b k logStep true = stepping home gs b k (b .queue)
-on-cut home gs b k logStep false = none-more home gs b k
-on-cut home gs b k cleanStep ok = none-more home gs b k
-on-cut home gs b k (reading p) ok = none-more home gs b k
-on-cut home gs b k (settling t) ok = none-more home gs b k
-
--- a refused call, and a cut at one, commit nothing
-call-refused : (home : List ℕ) (gs : List (List Update)) (b : Book) → Counts home gs (b .m) (b .pages) → (c : Call)
-    → Counts home gs (entered c false b .m) (entered c false b .pages)
-call-refused home gs b k (opening frames staging) = k
-call-refused home gs b k (begin u) = k
-call-refused home gs b k (describe u) = k
-call-refused home gs b k ending = k
-call-refused home gs b k logStep = k
-call-refused home gs b k cleanStep = k
-call-refused home gs b k (reading p) = k
-call-refused home gs b k (settling t) = k
-
-cut-refused : (home : List ℕ) (gs : List (List Update)) (b : Book) → Counts home gs (b .m) (b .pages) → (c : Call)
-    → Counts home gs (cutAt c false b .m) (cutAt c false b .pages)
-cut-refused home gs b k (opening frames staging) = k
-cut-refused home gs b k (begin u) = k
-cut-refused home gs b k (describe u) = k
-cut-refused home gs b k ending = k
-cut-refused home gs b k logStep = k
-cut-refused home gs b k cleanStep = k
-cut-refused home gs b k (reading p) = k
-cut-refused home gs b k (settling t) = k
+on-cut home gs b k c true = call-accepted home gs b k c
+on-cut home gs b k c false = none-more home gs b k
 
 -- ---- every run
 as-book : (home : List ℕ) (gs : List (List Update)) (b b′ : Book) → b′ ≡ b → Counts home gs (b .m) (b .pages) → Counts home gs (b′ .m) (b′ .pages)
@@ -151,7 +135,7 @@ counts by z w b (cut {world = w₀} {book = b₀} c a w′ stored frames staging
     as-book (foundBy run) (committedBy run ++ commitsOf c (both stored (accepts a)) b₀) (cutAt c (both stored (accepts a)) b₀) b q
     (on-cut (foundBy run) (committedBy run) b₀ (counts by z w₀ b₀ run) c (both stored (accepts a)))
 counts by z w b (cutUnfit {world = w₀} {book = b₀} c a lent lent′ frames staging run same st r e q) =
-    as-book (foundBy run) (committedBy run) (cutAt c false b₀) b q (cut-refused (foundBy run) (committedBy run) b₀ (counts by z w₀ b₀ run) c)
+    as-book (foundBy run) (committedBy run) (cutAt c false b₀) b q (counts by z w₀ b₀ run)
 
 -- the book accounts for every run
 pub book-accounts : (by : Steps) → BookClaim by

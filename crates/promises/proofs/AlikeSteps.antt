@@ -15,14 +15,12 @@ use Rattle.block.proofs.Tests.{tests}
 use Rattle.promises.specs.declared.State.{State}
 use Rattle.promises.specs.declared.Cleaning.{Cleaning}
 use Rattle.promises.specs.declared.Cleaning.the-variants.{Idle, First, Second, Third}
-use Rattle.promises.specs.declared.Ended.the-variants.{Ticket}
-use Rattle.promises.specs.declared.Logged.the-variants.{Settled as LogSettled}
-use Rattle.promises.specs.declared.Standing.the-variants.{Yes, No}
 use Rattle.promises.specs.Areas.{pageAt, firstHalf, secondHalf, withFirstHalf, withSecondHalf, withStaged, pagesIn, slotsIn, framesIn}
 use Rattle.promises.specs.Updates.{Update}
 use Rattle.promises.specs.Blocks.{Kind, update, commit, clean, stored}
 use Rattle.promises.specs.DirtyPages.{DirtyPage, Found, at, lookUp, shown, without, applyAll, keepFromOf}
-use Rattle.promises.specs.Contents.{Contents, contentsOf, dirtyFrom, dirtyOf, queueOf, grouped, allZeroState}
+use Rattle.promises.specs.Contents.{Contents, contentsOf, withCleaning, dirtyFrom, dirtyOf, queueOf, grouped}
+use Rattle.promises.specs.States.{allZeroState}
 use Rattle.promises.specs.Sums.{groupStart}
 use Rattle.promises.specs.Sound.{sound}
 use Rattle.promises.specs.Leaves.{Leaves}
@@ -32,10 +30,11 @@ use Rattle.promises.specs.Begin.{beginRefusal, begun}
 use Rattle.promises.specs.Describe.{describeRefusal, described}
 use Rattle.promises.specs.End.{endRefusal, ended}
 use Rattle.promises.specs.LogStep.{noUpdate, areasFit, logRefusal, logRefusalOf, updateStored, commitStored, UpdateStep, CommitStep}
-use Rattle.promises.specs.CleanStep.{cleanRefusal, cleanRefusalOf, Takes, Store, cleanStore, cleaningAt, cleanStored}
+use Rattle.promises.specs.CleanStep.{cleanRefusal, cleanRefusalOf, Takes, Store, cleanStore, cleanStored}
 use Rattle.promises.specs.Read.{readRefusalOf}
 use Rattle.promises.specs.Settled.{settledRefusal}
-use Rattle.promises.specs.Events.{World, Reply, refuses, shows, answered, endAnswered, logAnswered, openAnswered, standingAnswered, readAnswered, Opening, Beginning, Describing, Ending, Logging, Reading, Settling, fallen}
+use Rattle.promises.specs.Events.{World, Opening, Beginning, Describing, Ending, Logging, Reading, Settling, fallen}
+use Rattle.promises.specs.Answers.{Reply, refuses, gives, settles, shows, says, readAnswered}
 use Rattle.promises.specs.Events as events
 use Rattle.promises.specs.Alike.{Alike}
 use Rattle.promises.proofs.Soundness.{sound-of}
@@ -45,7 +44,8 @@ use Rattle.promises.proofs.History.KeepFrom.{keep-applied}
 use Rattle.promises.proofs.Demand3.{not-sound}
 use Rattle.promises.proofs.History.Sees.{by-eq}
 use Rattle.promises.proofs.History.WalkStart.{distinct-without}
-use Rattle.promises.proofs.Replies.{open-refused-reply, standing-refused-reply, read-refused-reply, read-accepted-reply}
+use Rattle.promises.proofs.Replies.{refused-by, accepted-by, read-refused-reply, read-accepted-reply}
+use Rattle.promises.proofs.Promised.{log-update, log-commit}
 use Rattle.promises.proofs.RefusedCalls.{Refuses, begin-refused, describe-refused, end-refused, log-refused, clean-refused}
 use Rattle.promises.proofs.CleaningOrder.{order-antisymmetric}
 use Rattle.promises.proofs.SameDirty.{same-keep, same-without, same-all}
@@ -99,7 +99,7 @@ opening-alike w v al f s f′ s′ lf ls a b w′ v′ st st′ = go (openFindin
         let o = st .promise .refused n j q in
         let o′ = st′ .promise .refused n j (sym same ∙ q) in
         let nz : n ≡ 0 → ⊥ = open-refusals (w .log) (w .home) (length f) (length s) n j q .0 in (
-          st .replyIs ∙ open-refused-reply (st .result .answer) n (o .refusalIs) nz ∙ sym (st′ .replyIs ∙ open-refused-reply (st′ .result .answer) n (o′ .refusalIs) nz),
+          st .replyIs ∙ o .answerIs ∙ sym (st′ .replyIs ∙ o′ .answerIs),
           stay (fallen w (st .frames′) s) (fallen v (st′ .frames′) s′) w′ v′
               (fall-alike w v (st .frames′) s (st′ .frames′) s′ (al .logIs) (al .homeIs))
               (st .after ∙ ap (λ (x : State). record { state = x; log = w .log; home = w .home; frames = st .frames′; staging = s }) (o .stateIs))
@@ -109,7 +109,7 @@ opening-alike w v al f s f′ s′ lf ls a b w′ v′ st st′ = go (openFindin
         let o = st .promise .accepted n k q in
         let o′ = st′ .promise .accepted n k (sym same ∙ q) in
         let c : opened (pagesIn (length (w .home))) (slotsIn (length (w .log))) (framesIn (length f)) n (k .ticket) ≡ opened (pagesIn (length (v .home))) (slotsIn (length (v .log))) (framesIn (length f′)) n (k .ticket) = rw (al .logIs, al .homeIs, lf) refl in (
-          st .replyIs ∙ ap openAnswered (o .answerIs) ∙ sym (st′ .replyIs ∙ ap openAnswered (o′ .answerIs)),
+          st .replyIs ∙ o .answerIs ∙ sym (st′ .replyIs ∙ o′ .answerIs),
           rw (st .after, st′ .after) (record {
             logIs = al .logIs;
             homeIs = al .homeIs;
@@ -147,7 +147,7 @@ module _ (w v : World) (al : Alike w v) where
   beginning-alike u a b w′ v′ st st′ = by-refusal (beginRefusal s u) (beginRefusal t u) (begin-alike w v al u)
       (λ e f.
       let so : sound s ≡ true = pick-zero (sound s) _ 2 (omega arith) e .0 in (
-        st .replyIs ∙ ap answered (st .promise .answerIs e ∙ sym (st′ .promise .answerIs f)) ∙ sym (st′ .replyIs),
+        st .replyIs ∙ accepted-by _ _ _ (st .promise .answerIs) e ∙ sym (accepted-by _ _ _ (st′ .promise .answerIs) f) ∙ sym (st′ .replyIs),
         rw (st .after, st′ .after) (leaves-alike so (st .result .state) (st′ .result .state) (w .staging) (v .staging) (λ (c : Contents). begun c u)
             (st .promise .leaves e (w .staging)) (st′ .promise .leaves f (v .staging)) (al .stagingLong so)),
       ))
@@ -160,7 +160,7 @@ module _ (w v : World) (al : Alike w v) where
       let so : sound s ≡ true = pick-zero (sound s) _ 2 (omega arith) e .0 in
       let tk : s .ticket ≡ t .ticket = ap (λ (c : Contents). c .ticket) (al .contentsAre) in
       let n : s .ticket + s .queued + 1 ≡ t .ticket + t .queued + 1 = omega (arith, tk, queued-alike w v al so) in (
-        st .replyIs ∙ ap endAnswered (st .promise .answerIs e ∙ ap Ticket n ∙ sym (st′ .promise .answerIs f)) ∙ sym (st′ .replyIs),
+        st .replyIs ∙ accepted-by _ _ _ (st .promise .answerIs) e ∙ ap gives n ∙ sym (accepted-by _ _ _ (st′ .promise .answerIs) f) ∙ sym (st′ .replyIs),
         rw (st .after, st′ .after) (leaves-alike so (st .result .state) (st′ .result .state) (w .staging) (v .staging) ended
             (st .promise .leaves e (w .staging)) (st′ .promise .leaves f (v .staging)) (al .stagingLong so)),
       ))
@@ -187,7 +187,7 @@ module _ (w v : World) (al : Alike w v) where
       let short : length (u .bytes) ≤ 472 = legal-short (s .pages) (u .page) (u .offset) (length (u .bytes)) (r .3) in
       let l : length (st .staging′) ≡ length (w .staging) = ap length (p .stagingIs) ∙ staged-long (s .frames) (p .area) (w .staging) (u .bytes) (r .1) (p .areaBelow) short in
       let l′ : length (st′ .staging′) ≡ length (v .staging) = ap length (p′ .stagingIs) ∙ staged-long (t .frames) (p′ .area) (v .staging) (u .bytes) (r′ .1) (p′ .areaBelow) short in (
-        st .replyIs ∙ ap answered (p .answerIs ∙ sym (p′ .answerIs)) ∙ sym (st′ .replyIs),
+        st .replyIs ∙ accepted-by _ _ _ (st .promise .answerIs) e ∙ sym (accepted-by _ _ _ (st′ .promise .answerIs) f) ∙ sym (st′ .replyIs),
         rw (st .after, st′ .after) (leaves-alike (r .0) (st .result .state) (st′ .result .state) (st .staging′) (st′ .staging′) (λ (c : Contents). described c u)
             (p .leaves) (p′ .leaves) (l ∙ al .stagingLong (r .0) ∙ sym l′)),
       ))
@@ -225,7 +225,7 @@ module _ (w v : World) (al : Alike w v) where
       updates : sound s ≡ true → (g : List Update) → UpdateStep s g (w .log) (w .frames) (w .staging) (st .result) (st .log′) (st .frames′)
           → UpdateStep t g (v .log) (v .frames) (v .staging) (st′ .result) (st′ .log′) (st′ .frames′) → (a ≡ b) × Alike w′ v′
       updates so g u u′ = (
-        st .replyIs ∙ ap logAnswered (u .answerIs ∙ sym (u′ .answerIs)) ∙ sym (st′ .replyIs),
+        st .replyIs ∙ u .answerIs ∙ sym (u′ .answerIs) ∙ sym (st′ .replyIs),
         rw (st .after, st′ .after, u .framesAre, u′ .framesAre) (record {
           logIs = u .logIs ∙ block-alike so (update (s .stored + 1) (getD g (s .stored) noUpdate)) (λ n. n)
               ∙ ap (λ (n : ℕ). stored (t .slots) (v .log) (t .next) (record { kind = update (n + 1) (getD g n noUpdate); keepFrom = keepFromOf (groupStart t) (dirtyOf t (v .frames)); ticket = t .ticket })) stored-same
@@ -244,7 +244,7 @@ module _ (w v : World) (al : Alike w v) where
       commits so g q u u′ =
           let keep = keep-applied (groupStart s) (pageAt (w .home)) g (dirtyOf s (w .frames)) in
           let keep′ = keep-applied (groupStart t) (pageAt (v .home)) g (dirtyOf t (v .frames)) in (
-            st .replyIs ∙ ap logAnswered (u .answerIs ∙ ap (λ (c : Contents). LogSettled (c .ticket + 1)) (al .contentsAre) ∙ sym (u′ .answerIs)) ∙ sym (st′ .replyIs),
+            st .replyIs ∙ u .answerIs ∙ ap (λ (c : Contents). settles (c .ticket + 1)) (al .contentsAre) ∙ sym (u′ .answerIs) ∙ sym (st′ .replyIs),
             rw (st .after, st′ .after) (record {
               logIs = u .logIs ∙ ap (λ (k : ℕ). stored (s .slots) (w .log) (s .next) (record { kind = commit (length g); keepFrom = k; ticket = s .ticket + 1 })) keep
                   ∙ block-alike so (commit (length g)) (λ n. n + 1)
@@ -268,8 +268,12 @@ module _ (w v : World) (al : Alike w v) where
       go e f so nz ln (x ∷ y) q =
           let q′ : queueOf t (v .staging) ≡ x ∷ y = ap (λ (c : Contents). c .queue) (sym (al .contentsAre)) ∙ q in
           either (s .stored) (length x)
-          (λ h. updates so x (st .promise .updates e x y q h) (st′ .promise .updates f x y q′ (omega (arith, stored-same))))
-          (λ h. commits so x y (st .promise .commits e x y q h) (st′ .promise .commits f x y q′ (omega (arith, stored-same))))
+          (λ h. updates so x
+          (log-update s (w .log) (w .home) (w .frames) (w .staging) (st .result) (st .log′) (st .frames′) e x y q (st .promise) h)
+          (log-update t (v .log) (v .home) (v .frames) (v .staging) (st′ .result) (st′ .log′) (st′ .frames′) f x y q′ (st′ .promise) (omega (arith, stored-same))))
+          (λ h. commits so x y
+          (log-commit s (w .log) (w .home) (w .frames) (w .staging) (st .result) (st .log′) (st .frames′) e x y q (st .promise) h)
+          (log-commit t (v .log) (v .home) (v .frames) (v .staging) (st′ .result) (st′ .log′) (st′ .frames′) f x y q′ (st′ .promise) (omega (arith, stored-same))))
 
   -- ---- Clean step
   -- the same page is taken
@@ -294,19 +298,19 @@ module _ (w v : World) (al : Alike w v) where
   stores-alike so Idle p e = record {
     log = al .logIs;
     home = ap (λ (h : List ℕ). withFirstHalf h p (firstHalf (e .bytes))) (al .homeIs);
-    contents = ap (λ (c : Contents). cleaningAt c (Second p)) (al .contentsAre);
+    contents = ap (λ (c : Contents). withCleaning c (Second p)) (al .contentsAre);
     dirty = al .dirtyAre;
   }
   stores-alike so (First r) p e = record {
     log = al .logIs;
     home = ap (λ (h : List ℕ). withFirstHalf h p (firstHalf (e .bytes))) (al .homeIs);
-    contents = ap (λ (c : Contents). cleaningAt c (Second p)) (al .contentsAre);
+    contents = ap (λ (c : Contents). withCleaning c (Second p)) (al .contentsAre);
     dirty = al .dirtyAre;
   }
   stores-alike so (Second r) p e = record {
     log = al .logIs;
     home = ap (λ (h : List ℕ). withSecondHalf h p (secondHalf (e .bytes))) (al .homeIs);
-    contents = ap (λ (c : Contents). cleaningAt c (Third p)) (al .contentsAre);
+    contents = ap (λ (c : Contents). withCleaning c (Third p)) (al .contentsAre);
     dirty = al .dirtyAre;
   }
   stores-alike so (Third r) p e =
@@ -342,7 +346,7 @@ module _ (w v : World) (al : Alike w v) where
       λ x. ap (λ (c : Cleaning). cleanStore c t (v .log) (v .home) (dirtyOf t (v .frames)) (contentsOf t x) (u .page) (u .entry)) (sym sameCleaning)
       ∙ ap (λ (p : ℕ). cleanStore (t .cleaning) t (v .log) (v .home) (dirtyOf t (v .frames)) (contentsOf t x) p (u .entry)) samePage
       ∙ ap (λ (y : DirtyPage). cleanStore (t .cleaning) t (v .log) (v .home) (dirtyOf t (v .frames)) (contentsOf t x) (u′ .page) y) sameEntry in (
-        st .replyIs ∙ ap answered (u .answerIs ∙ sym (u′ .answerIs)) ∙ sym (st′ .replyIs),
+        st .replyIs ∙ accepted-by _ _ _ (st .promise .answerIs) e ∙ sym (accepted-by _ _ _ (st′ .promise .answerIs) f) ∙ sym (st′ .replyIs),
         rw (st .after, st′ .after) (record {
           logIs = u .logIs ∙ k .log ∙ ap (λ (x : Store). x .log) (turned []) ∙ sym (u′ .logIs);
           homeIs = u .homeIs ∙ k .home ∙ ap (λ (x : Store). x .home) (turned []) ∙ sym (u′ .homeIs);
@@ -387,8 +391,8 @@ module _ (w v : World) (al : Alike w v) where
   settling-alike k a b w′ v′ st st′ = (
     st .replyIs
         ∙ by-refusal (settledRefusal s k) (settledRefusal t k) (settled-alike w v al k)
-        (λ e f. ap standingAnswered (st .promise .answerIs e ∙ ap (λ (c : Contents). cond (leb k (c .ticket)) Yes No) (al .contentsAre) ∙ sym (st′ .promise .answerIs f)))
-        (λ m n. standing-refused-reply (st .result) _ (st .promise .refusal) m ∙ ap refuses (settled-alike w v al k) ∙ sym (standing-refused-reply (st′ .result) _ (st′ .promise .refusal) n))
+        (λ e f. accepted-by _ _ _ (st .promise .answerIs) e ∙ ap (λ (c : Contents). says (leb k (c .ticket))) (al .contentsAre) ∙ sym (accepted-by _ _ _ (st′ .promise .answerIs) f))
+        (λ m n. refused-by _ _ _ (st .promise .answerIs) m ∙ ap refuses (settled-alike w v al k) ∙ sym (refused-by _ _ _ (st′ .promise .answerIs) n))
         ∙ sym (st′ .replyIs),
     stay w v w′ v′ al (st .after) (st′ .after),
   )

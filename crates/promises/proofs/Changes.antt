@@ -21,18 +21,20 @@ use Rattle.promises.specs.declared.Logged.the-variants.{Stored}
 use Rattle.promises.specs.Updates.{Update}
 use Rattle.promises.specs.Areas.{pageAt}
 use Rattle.promises.specs.DirtyPages.{DirtyPage, Found, at, lookUp, shown}
-use Rattle.promises.specs.Contents.{unless, Contents, contentsOf, dirtyFrom, dirtyOf, groupsOf, grouped, queueOf, waiting, total}
+use Rattle.promises.specs.Contents.{unless, Contents, contentsOf, withQueue, withOpen, dirtyFrom, dirtyOf, groupsOf, grouped, queueOf, waiting, total}
 use Rattle.promises.specs.Sums.{blockCount, firstGroups, halfStarts, smallest, openOnes, waitingBlocks, slotsTaken, framesTaken, queuedUpdates}
 use Rattle.promises.specs.Sound.{dirtyNumbers, names, stagedOf, areasOf, allBelow, allLegal, distinct, sizesLegal, ofOldest, sound}
-use Rattle.promises.specs.Begin.{beginRefusal, beginInRange, beginHasRoom, Begins}
-use Rattle.promises.specs.Book.{begun, ended}
+use Rattle.promises.specs.States.{setCleaning}
+use Rattle.promises.specs.Answers.{done, gives}
+use Rattle.promises.specs.Begin.{beginRefusal, beginInRange, beginHasRoom, begunState, Begins}
 use Rattle.promises.specs.Describe.{describeRefusal}
 use Rattle.block.specs.Legal.{legalPlace}
-use Rattle.promises.specs.End.{endRefusal, Ends}
+use Rattle.promises.specs.End.{endRefusal, endedState, Ends}
 use Rattle.promises.specs.Leaves.{Leaves}
 use Rattle.promises.specs.Blocks.{stored}
-use Rattle.promises.specs.LogStep.{updateBlock, UpdateStep}
+use Rattle.promises.specs.LogStep.{updateBlock, updateStoredState, UpdateStep}
 use Rattle.promises.specs.Read.{Held, atHome, inFrame, heldIn}
+use Rattle.promises.proofs.Replies.{replied-accepted}
 use Rattle.promises.proofs.Soundness.{and-both, and2, Sound, sound-of, of-sound}
 
 -- ---- refusals taken apart
@@ -57,33 +59,16 @@ describe-passed s staging page offset count e =
     (c2 .0, eqb-true _ _ (c1 .0), eqb-false _ _ (c4 .0), c3 .0, ltb-true _ _ (c5 .0))
 
 -- ---- Begin
-abbrev pub opened : State → ℕ → State
-opened s u = record {
-  pages = s .pages;
-  slots = s .slots;
-  frames = s .frames;
-  next = s .next;
-  ticket = s .ticket;
-  dirty = s .dirty;
-  staged = s .staged;
-  groups = s .groups;
-  queued = s .queued;
-  stored = s .stored;
-  reserved = u;
-  described = 0;
-  cleaning = s .cleaning;
-}
-
 one-open : (u : ℕ) → (u ≡ 0 → ⊥) → cond (eqb u 0) [] (u ∷ []) ≡ u ∷ []
 one-open u n = simp (ne-eqb u 0 n)
 
-pub sound-opened : (s : State) (u : ℕ) → Sound s → s .reserved ≡ 0 → 1 ≤ u → u ≤ 16 → slotsTaken s + 2 * u + 1 ≤ s .slots → framesTaken s + u ≤ s .frames → s .next + waitingBlocks s + u + 1 ≤ 2 ^ 48 → Sound (opened s u)
+pub sound-opened : (s : State) (u : ℕ) → Sound s → s .reserved ≡ 0 → 1 ≤ u → u ≤ 16 → slotsTaken s + 2 * u + 1 ≤ s .slots → framesTaken s + u ≤ s .frames → s .next + waitingBlocks s + u + 1 ≤ 2 ^ 48 → Sound (begunState s u)
 sound-opened s u f z lo hi a b c =
     let d : s .described ≡ 0 = omega (arith, f .described) in
     let st : take (total (groupsOf s) + 0) (s .staged) ≡ stagedOf s = ap (λ (n : ℕ). take (total (groupsOf s) + n) (s .staged)) (sym d) in
-    let o : openOnes (opened s u) ≡ u ∷ [] = one-open u (λ e. omega arith) in
-    let t1 : total (openOnes (opened s u)) ≡ u = ap total o ∙ omega arith in
-    let t2 : blockCount (openOnes (opened s u)) ≡ u + 1 = ap blockCount o ∙ omega arith in
+    let o : openOnes (begunState s u) ≡ u ∷ [] = one-open u (λ e. omega arith) in
+    let t1 : total (openOnes (begunState s u)) ≡ u = ap total o ∙ omega arith in
+    let t2 : blockCount (openOnes (begunState s u)) ≡ u + 1 = ap blockCount o ∙ omega arith in
     record {
       pages = f .pages;
       slots = f .slots;
@@ -108,7 +93,7 @@ sound-opened s u f z lo hi a b c =
       sequenceSum = omega (arith, t2);
     }
 
-pub begin-met : (s : State) (u : ℕ) → beginRefusal s u ≡ 0 → Begins s u (record { state = opened s u; answer = Done })
+pub begin-met : (s : State) (u : ℕ) → beginRefusal s u ≡ 0 → Begins s u (record { state = begunState s u; answer = Done })
 unfolding beginRefusal
 begin-met s u e =
     let c2 = pick-zero (sound s) _ 2 (omega arith) e in
@@ -120,28 +105,16 @@ begin-met s u e =
     let r2 = and-both (leb 1 u && leb u 16) (leb u (s .frames)) (r3 .0) in
     let r1 = and-both (leb 1 u) (leb u 16) (r2 .0) in
     let m = and-both (leb (slotsTaken s + 2 * u + 1) (s .slots)) (leb (framesTaken s + u) (s .frames)) (c5 .0) in
-    let so : sound (opened s u) ≡ true = of-sound (opened s u) (sound-opened s u (sound-of s (c2 .0)) (eqb-true _ _ (c4 .0)) (leb-true _ _ (r1 .0)) (leb-true _ _ (r1 .1)) (leb-true _ _ (m .0)) (leb-true _ _ (m .1)) (leb-true _ _ (c6 .0))) in
-    record { refusal = sym e; refused = λ n. absurd (n e); answerIs = λ x. refl; leaves = λ x staging. record { staysSound = so; contentsAre = refl; dirtyAre = λ frames p. refl } }
+    let so : sound (begunState s u) ≡ true = of-sound (begunState s u) (sound-opened s u (sound-of s (c2 .0)) (eqb-true _ _ (c4 .0)) (leb-true _ _ (r1 .0)) (leb-true _ _ (r1 .1)) (leb-true _ _ (m .0)) (leb-true _ _ (m .1)) (leb-true _ _ (c6 .0))) in
+    record {
+      answerIs = sym (replied-accepted (beginRefusal s u) done e);
+      refused = λ n. absurd (n e);
+      stateIs = λ x. refl;
+      leaves = λ x staging. record { staysSound = so; contentsAre = refl; dirtyAre = λ frames p. refl };
+    }
 
 -- ---- End
-abbrev pub closed : State → State
-closed s = record {
-  pages = s .pages;
-  slots = s .slots;
-  frames = s .frames;
-  next = s .next;
-  ticket = s .ticket;
-  dirty = s .dirty;
-  staged = s .staged;
-  groups = set (s .groups) (s .queued) (s .described);
-  queued = s .queued + 1;
-  stored = s .stored;
-  reserved = 0;
-  described = 0;
-  cleaning = s .cleaning;
-}
-
-pub groups-closed : (s : State) → s .queued < length (s .groups) → groupsOf (closed s) ≡ groupsOf s ++ (s .described ∷ [])
+pub groups-closed : (s : State) → s .queued < length (s .groups) → groupsOf (endedState s) ≡ groupsOf s ++ (s .described ∷ [])
 groups-closed s h = rw (add-one, take-suc-set)
 
 pub total-snoc : (ns : List ℕ) (d : ℕ) → total (ns ++ (d ∷ [])) ≡ total ns + d
@@ -178,17 +151,14 @@ unfolding grouped
 grouped-snoc [] d us = refl
 grouped-snoc (n ∷ ns) d us = ap (λ (q : List (List Update)). take n us ∷ q) (grouped-snoc ns d (drop n us) ∙ ap (λ (x : List Update). grouped ns (drop n us) ++ (take d x ∷ [])) (drop-drop (total ns) n us))
 
-none-open : total (cond (eqb 0 0) [] (0 ∷ [])) ≡ 0
-none-open = refl
-
-pub sound-closed : (s : State) → Sound s → (s .reserved ≡ 0 → ⊥) → (s .described ≡ 0 → ⊥) → s .queued < length (s .groups) → Sound (closed s)
+pub sound-closed : (s : State) → Sound s → (s .reserved ≡ 0 → ⊥) → (s .described ≡ 0 → ⊥) → s .queued < length (s .groups) → Sound (endedState s)
 sound-closed s f n m h =
     let d : ℕ = s .described in
-    let g : groupsOf (closed s) ≡ groupsOf s ++ (d ∷ []) = groups-closed s h in
-    let tg : total (groupsOf (closed s)) ≡ total (groupsOf s) + d = ap total g ∙ total-snoc (groupsOf s) d in
-    let bg : blockCount (groupsOf (closed s)) ≡ blockCount (groupsOf s) + d + 1 = ap blockCount g ∙ blocks-snoc (groupsOf s) d in
-    let tn : total (groupsOf (closed s)) + 0 ≡ total (groupsOf s) + d = omega (arith, tg) in
-    let st : take (total (groupsOf (closed s)) + 0) (s .staged) ≡ stagedOf s = ap (λ (k : ℕ). take k (s .staged)) tn in
+    let g : groupsOf (endedState s) ≡ groupsOf s ++ (d ∷ []) = groups-closed s h in
+    let tg : total (groupsOf (endedState s)) ≡ total (groupsOf s) + d = ap total g ∙ total-snoc (groupsOf s) d in
+    let bg : blockCount (groupsOf (endedState s)) ≡ blockCount (groupsOf s) + d + 1 = ap blockCount g ∙ blocks-snoc (groupsOf s) d in
+    let tn : total (groupsOf (endedState s)) + 0 ≡ total (groupsOf s) + d = omega (arith, tg) in
+    let st : take (total (groupsOf (endedState s)) + 0) (s .staged) ≡ stagedOf s = ap (λ (k : ℕ). take k (s .staged)) tn in
     let lo : 1 ≤ d = omega arith in
     let hi : d ≤ 16 = omega (arith, f .described, f .reserved) in
     let o : openOnes s ≡ s .reserved ∷ [] = one-open (s .reserved) n in
@@ -219,7 +189,7 @@ sound-closed s f n m h =
       sequenceSum = omega (arith, f .sequenceSum, f .described, t2, bg, sf);
     }
 
-pub end-met : (s : State) → length (s .groups) ≡ 32 → endRefusal s ≡ 0 → Ends s (record { state = closed s; answer = Ticket (s .ticket + s .queued + 1) })
+pub end-met : (s : State) → length (s .groups) ≡ 32 → endRefusal s ≡ 0 → Ends s (record { state = endedState s; answer = Ticket (s .ticket + s .queued + 1) })
 unfolding endRefusal
 end-met s l e =
     let c2 = pick-zero (sound s) _ 2 (omega arith) e in
@@ -231,36 +201,20 @@ end-met s l e =
     let o : total (openOnes s) ≡ s .reserved = ap total (one-open (s .reserved) n) ∙ omega arith in
     let k : length (groupsOf s) ≡ s .queued = length-take-le (s .queued) (s .groups) (f .queued) in
     let q : s .queued < length (s .groups) = omega (arith, groups-count (groupsOf s) (f .groups), f .frameSum, f .described, f .frames, o) in
-    let so : sound (closed s) ≡ true = of-sound (closed s) (sound-closed s f n m q) in
+    let so : sound (endedState s) ≡ true = of-sound (endedState s) (sound-closed s f n m q) in
     record {
-      refusal = sym e;
+      answerIs = sym (replied-accepted (endRefusal s) (gives (s .ticket + s .queued + 1)) e);
       refused = λ x. absurd (x e);
-      answerIs = λ x. refl;
+      stateIs = λ x. refl;
       leaves = λ x staging. record {
         staysSound = so;
-        contentsAre = ap (λ (y : List (List Update)). record { pages = s .pages; slots = s .slots; frames = s .frames; next = s .next; ticket = s .ticket; queue = y; stored = s .stored; reserved = 0; list = []; cleaning = s .cleaning })
+        contentsAre = ap (λ (y : List (List Update)). withOpen (withQueue (contentsOf s staging) y (s .stored)) 0 [])
             (ap (λ (ns : List ℕ). grouped ns (map (waiting staging) (s .staged))) (groups-closed s q) ∙ grouped-snoc (groupsOf s) (s .described) (map (waiting staging) (s .staged)));
         dirtyAre = λ frames p. refl;
       };
     }
 
 -- ---- an update block is stored
-abbrev pub updateDone : State → State
-updateDone s = record {
-  pages = s .pages;
-  slots = s .slots;
-  frames = s .frames;
-  next = s .next + 1;
-  ticket = s .ticket;
-  dirty = s .dirty;
-  staged = s .staged;
-  groups = s .groups;
-  queued = s .queued;
-  stored = s .stored + 1;
-  reserved = s .reserved;
-  described = s .described;
-  cleaning = s .cleaning;
-}
 
 pub below-more : (n m : ℕ) (xs : List ℕ) → n ≤ m → allBelow n xs ≡ true → allBelow m xs ≡ true
 below-more n m [] h e = refl
@@ -296,14 +250,14 @@ head-size c (n ∷ ns) us g q e h l =
     let k : length g ≡ min n (length us) = ap length (sym t) ∙ length-take n us in
     le-leb (c + 1) n (omega arith)
 
-pub sound-update : (s : State) (staging : List ℕ) (g : List Update) (q : List (List Update)) → Sound s → queueOf s staging ≡ g ∷ q → s .stored < length g → Sound (updateDone s)
+pub sound-update : (s : State) (staging : List ℕ) (g : List Update) (q : List (List Update)) → Sound s → queueOf s staging ≡ g ∷ q → s .stored < length g → Sound (updateStoredState s)
 sound-update s staging g q f e h =
     let st : ofOldest (s .stored + 1) (groupsOf s) ≡ true = head-size (s .stored) (groupsOf s) (map (waiting staging) (s .staged)) g q e (f .stored) h in
     let few : s .stored + 1 ≤ blockCount (groupsOf s) = stored-few (s .stored + 1) (groupsOf s) st in
     let x : ℕ = smallest (s .next - s .stored) (firstGroups (s .dirty)) in
     let h1 : smallest (s .next) (halfStarts s ++ firstGroups (s .dirty)) ≡ x = held-is s in
     let nn : s .next + 1 - (s .stored + 1) ≡ s .next - s .stored = omega arith in
-    let h2 : smallest (s .next + 1) (halfStarts (updateDone s) ++ firstGroups (s .dirty)) ≡ x = held-is (updateDone s) ∙ ap (λ (n : ℕ). smallest n (firstGroups (s .dirty))) nn in
+    let h2 : smallest (s .next + 1) (halfStarts (updateStoredState s) ++ firstGroups (s .dirty)) ≡ x = held-is (updateStoredState s) ∙ ap (λ (n : ℕ). smallest n (firstGroups (s .dirty))) nn in
     let le : x ≤ s .next - s .stored = smallest-le (s .next - s .stored) (firstGroups (s .dirty)) in
     record {
       pages = f .pages;
@@ -331,29 +285,13 @@ sound-update s staging g q f e h =
 
 -- the promise of an update's store, met by this state and a log with the block in its slot
 pub update-met : (s : State) (g : List Update) (q : List (List Update)) (log frames staging : List ℕ) → sound s ≡ true → queueOf s staging ≡ g ∷ q → s .stored < length g
-    → UpdateStep s g log frames staging (record { state = updateDone s; answer = Stored }) (stored (s .slots) log (s .next) (updateBlock s g (dirtyOf s frames))) frames
+    → UpdateStep s g log frames staging (record { state = updateStoredState s; answer = Stored }) (stored (s .slots) log (s .next) (updateBlock s g (dirtyOf s frames))) frames
 update-met s g q log frames staging so e h =
-    record { answerIs = refl; logIs = refl; framesAre = refl; staysSound = of-sound (updateDone s) (sound-update s staging g q (sound-of s so) e h); contentsAre = refl; dirtyAre = λ p. refl }
+    record { answerIs = refl; logIs = refl; framesAre = refl; stateIs = refl; staysSound = of-sound (updateStoredState s) (sound-update s staging g q (sound-of s so) e h); contentsAre = refl; dirtyAre = λ p. refl }
 
 -- ---- half a page is stored
-abbrev pub cleaningTo : State → Cleaning → State
-cleaningTo s c = record {
-  pages = s .pages;
-  slots = s .slots;
-  frames = s .frames;
-  next = s .next;
-  ticket = s .ticket;
-  dirty = s .dirty;
-  staged = s .staged;
-  groups = s .groups;
-  queued = s .queued;
-  stored = s .stored;
-  reserved = s .reserved;
-  described = s .described;
-  cleaning = c;
-}
 
-pub sound-cleaning : (s : State) (c : Cleaning) → Sound s → names c (dirtyNumbers (s .dirty)) ≡ true → Sound (cleaningTo s c)
+pub sound-cleaning : (s : State) (c : Cleaning) → Sound s → names c (dirtyNumbers (s .dirty)) ≡ true → Sound (setCleaning s c)
 sound-cleaning s c f h =
     record {
       pages = f .pages;

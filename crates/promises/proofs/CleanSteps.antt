@@ -16,12 +16,12 @@ use Rattle.area.specs.Part.{part}
 use Rattle.promises.specs.Areas.{pageAt, withFirstHalf, withSecondHalf}
 use Rattle.promises.specs.Blocks.{clean, LogBlock, Slot, slotsOf}
 use Rattle.promises.specs.DirtyPages.{DirtyPage, Found, at, lookUp, keepFromOf, without}
-use Rattle.promises.specs.Contents.{contentsOf, dirtyOf, queueOf}
+use Rattle.promises.specs.Contents.{contentsOf, withCleaning, dirtyOf, queueOf}
 use Rattle.promises.specs.Sound.{sound}
 use Rattle.promises.specs.Sums.{sequencesTaken, dirtyCount}
 use Rattle.promises.specs.Blocks.{stored}
 use Rattle.promises.specs.LogStep.{areasFit}
-use Rattle.promises.specs.CleanStep.{thirdRefusal, cleanRefusal, cleanRefusalOf, Takes, cleanBlock, cleanStore, cleaningAt, cleanStored}
+use Rattle.promises.specs.CleanStep.{thirdRefusal, cleanRefusal, cleanRefusalOf, Takes, cleanBlock, cleanStore, cleanStored}
 use Rattle.promises.proofs.Changes.{pick-zero, pick-other}
 use Rattle.promises.proofs.History.Machine.{Live, idle, second, third, setPage, halfStored, World as Machine, up}
 use Rattle.promises.proofs.History.Machine as machine
@@ -32,7 +32,8 @@ use Rattle.promises.proofs.History.Invariant.{Stage, frame-right, invar
 use Rattle.promises.proofs.History.Tally.{lookUp-page}
 use Rattle.promises.proofs.History.Whole.{Kept, Runs, kept-clean, kept-half}
 use Rattle.promises.specs.Book.{Book}
-use Rattle.promises.specs.Events.{Sizes, World, cleanStep, Reply, accepts}
+use Rattle.promises.specs.Events.{Sizes, World, cleanStep}
+use Rattle.promises.specs.Answers.{Reply, accepts}
 use Rattle.promises.specs.Events as events
 use Rattle.promises.specs.Stored.{storesBlock, newBlock, storedIn}
 use Rattle.promises.proofs.Ranges.{Ranged}
@@ -42,7 +43,7 @@ use Rattle.promises.proofs.Pages.{first-half, second-half, first-other,
 use Rattle.promises.proofs.Slots.{KindFits}
 use Rattle.promises.proofs.SoundFacts.{Facts, facts}
 use Rattle.promises.proofs.Kept.{sizesOf, bookOf, liveOf, stageOf, Lives, Good, lives-from}
-use Rattle.promises.proofs.Replies.{refused-false}
+use Rattle.promises.proofs.Replies.{refused-not, accepted-by}
 use Rattle.promises.proofs.LogSteps.{keep-facts, stored-long, stored-slots}
 use Rattle.promises.proofs.StoredBlocks.{none-stored, one-stored}
 
@@ -99,7 +100,7 @@ module _ (z : Sizes) (range : Ranged z) (w : World) (b : Book) {history : List L
       → Disk history home′ (gd .pages) (b .m)
       → Alive history home′ (record { ticket = s .ticket; queue = queueOf s (w .staging); count = s .stored; dirtyPages = dirtyOf s (w .frames); cleaning = stageOf c }) ledger₀
       → length bytes ≡ length (w .home) → ((p : ℕ) → p < z .pages → home′ p ≡ pageAt bytes p)
-      → (contentsOf t (w .staging) ≡ cleaningAt (contentsOf s (w .staging)) c) → ((p : ℕ) → lookUp p (dirtyOf t (w .frames)) ≡ lookUp p (dirtyOf s (w .frames)))
+      → (contentsOf t (w .staging) ≡ withCleaning (contentsOf s (w .staging)) c) → ((p : ℕ) → lookUp p (dirtyOf t (w .frames)) ≡ lookUp p (dirtyOf s (w .frames)))
       → Good z (record { state = t; log = w .log; home = bytes; frames = w .frames; staging = w .staging }) b history
   half-good q e r home′ bytes c t d a ln hi se dy =
       let l = r .lives in
@@ -119,7 +120,7 @@ module _ (z : Sizes) (range : Ranged z) (w : World) (b : Book) {history : List L
       }
 
   front-good : (q : ℕ) (e : DirtyPage) → lookUp q (dirtyOf s (w .frames)) ≡ at e → sound s ≡ true → (t : State)
-      → (contentsOf t (w .staging) ≡ cleaningAt (contentsOf s (w .staging)) (Second q)) → ((p : ℕ) → lookUp p (dirtyOf t (w .frames)) ≡ lookUp p (dirtyOf s (w .frames)))
+      → (contentsOf t (w .staging) ≡ withCleaning (contentsOf s (w .staging)) (Second q)) → ((p : ℕ) → lookUp p (dirtyOf t (w .frames)) ≡ lookUp p (dirtyOf s (w .frames)))
       → Good z (record { state = t; log = w .log; home = withFirstHalf (w .home) q (part (e .bytes) 0 512); frames = w .frames; staging = w .staging }) b history
   unfolding halfStored
   front-good q e f so t se dy =
@@ -135,7 +136,7 @@ module _ (z : Sizes) (range : Ranged z) (w : World) (b : Book) {history : List L
       se dy
 
   back-good : (q : ℕ) (e : DirtyPage) → lookUp q (dirtyOf s (w .frames)) ≡ at e → sound s ≡ true → s .cleaning ≡ Second q → (t : State)
-      → (contentsOf t (w .staging) ≡ cleaningAt (contentsOf s (w .staging)) (Third q)) → ((p : ℕ) → lookUp p (dirtyOf t (w .frames)) ≡ lookUp p (dirtyOf s (w .frames)))
+      → (contentsOf t (w .staging) ≡ withCleaning (contentsOf s (w .staging)) (Third q)) → ((p : ℕ) → lookUp p (dirtyOf t (w .frames)) ≡ lookUp p (dirtyOf s (w .frames)))
       → Good z (record { state = t; log = w .log; home = withSecondHalf (w .home) q (part (e .bytes) 512 512); frames = w .frames; staging = w .staging }) b history
   unfolding halfStored
   back-good q e f so c t se dy =
@@ -216,9 +217,9 @@ module _ (z : Sizes) (range : Ranged z) (w : World) (b : Book) {history : List L
       let c1 = pick-zero (areasFit s (length (w .log)) (length (w .home)) (length (w .frames))) _ 1 (omega arith) (c2 .1) in
       let c10 = pick-other (eqb (dirtyCount s) 0) _ 10 (omega arith) (c1 .1) in
       let p = st .promise .accepted e in
-      rw (st .replyIs, p .answerIs, st .after, p .logIs, p .homeIs) (go (s .cleaning) refl (c2 .0) (c10 .1) (p .page) (p .entry) (p .found) (p .takes) (st .result .state) (p .contentsAre (w .staging)) (p .dirtyAre)))
+      rw (st .replyIs, accepted-by _ _ _ (st .promise .answerIs) e, st .after, p .logIs, p .homeIs) (go (s .cleaning) refl (c2 .0) (c10 .1) (p .page) (p .entry) (p .found) (p .takes) (st .result .state) (p .contentsAre (w .staging)) (p .dirtyAre)))
       (λ n. let k = st .promise .refused n in
-      rw (st .replyIs, st .after, refused-false (st .result .answer) _ (st .promise .refusal) n, k .1, k .2)
+      rw (st .replyIs, st .after, refused-not _ _ _ (st .promise .answerIs) n, k .1, k .2)
       (subst (λ (x : State). Good z (record { state = x; log = w .log; home = w .home; frames = w .frames; staging = w .staging }) b (history ++ [])) (sym (k .0)) (none-stored gd)))
     where
       go : (c : Cleaning) → s .cleaning ≡ c → sound s ≡ true → thirdRefusal s c ≡ 0 → (q : ℕ) (e : DirtyPage) → lookUp q (dirtyOf s (w .frames)) ≡ at e → Takes c (dirtyOf s (w .frames)) q e → (t : State)

@@ -17,14 +17,16 @@ use Rattle.promises.specs.declared.Cleaning.{Cleaning}
 use Rattle.promises.specs.declared.Cleaning.the-variants.{Idle, First, Second, Third}
 use Rattle.promises.specs.Areas.{pageAt}
 use Rattle.promises.specs.DirtyPages.{DirtyPage, at, lookUp, without}
-use Rattle.promises.specs.Contents.{unless, dirtyFrom, dirtyOf, Contents, contentsOf, queueOf}
+use Rattle.promises.specs.Contents.{unless, dirtyFrom, dirtyOf, Contents, contentsOf, withCleaning, queueOf}
 use Rattle.promises.specs.Sums.{firstGroups, dirtyCount}
 use Rattle.promises.specs.Sound.{sound}
 use Rattle.promises.specs.LogStep.{areasFit}
 use Rattle.promises.specs.CleanStep.{thirdRefusal, cleanRefusal, cleanRefusalOf, cleanStore}
-use Rattle.promises.specs.Events.{World, Reply, accepts, answered}
+use Rattle.promises.specs.Events.{World}
+use Rattle.promises.specs.Answers.{Reply, accepts, answered}
 use Rattle.promises.specs.Events as events
 use Rattle.promises.specs.Waiting.{Fitting}
+use Rattle.promises.proofs.Replies.{accepted-by}
 use Rattle.promises.proofs.Changes.{pick-zero, pick-other}
 use Rattle.promises.proofs.Soundness.{and-both, sound-of}
 use Rattle.promises.proofs.SoundFacts.{Facts, facts, length-dirty, length-queue}
@@ -188,7 +190,7 @@ module _ (w : World) (a : Reply) (w′ : World) (st : events.Cleaning w a w′) 
       let none : s .frames ≡ s .frames - 0 = omega arith in
       let long : length (c .entry .bytes) ≡ 1024 = frame-long (s .frames) (w .frames) 0 (c .page) (s .dirty) (c .entry) (p .framesLong)
       (subst (λ (i : ℕ). length (firstGroups (drop i (s .dirty))) ≡ 0) none (sound-of s (p .isSound) .framesBelow)) (c .found) in
-      by (s .cleaning) refl (c .page) (c .entry) (c .found) inside long (ap (λ (x : Answer). accepts (answered x)) (c .answerIs)) (c .staysSound) (c .contentsAre (w .staging)) (c .dirtyAre) (c .logIs) (c .homeIs)
+      by (s .cleaning) refl (c .page) (c .entry) (c .found) inside long (ap accepts (accepted-by _ _ _ (st .promise .answerIs) (clean-accepts w p))) (c .staysSound) (c .contentsAre (w .staging)) (c .dirtyAre) (c .logIs) (c .homeIs)
     where
       same : sound t ≡ true → (es : List DirtyPage) → Distinct es → Same (dirtyOf t (w .frames)) es → dirtyCount t ≡ length es
       same so es d h = sym (length-dirty (w .frames) 0 (t .dirty)) ∙ same-count es (dirtyOf t (w .frames)) d (facts t (w .frames) so .distinct) h

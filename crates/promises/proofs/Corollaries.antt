@@ -11,10 +11,11 @@ use lib.Dec.{leb, ltb}
 use borrow.Author.Tests.{le-leb}
 use Rattle.promises.specs.Areas.{pageAt}
 use Rattle.promises.specs.Updates.{Update, redo, ofPage}
-use Rattle.promises.specs.Book.{Book, blank, counted, committed, stepped, steppedOver}
-use Rattle.promises.specs.Events.{Sizes, World, Call, opening, begin, describe, ending, logStep, cleanStep, reading, settling, Reply, shows, says, accepts, Lent, fallen}
-use Rattle.promises.specs.Claim.{Steps, entered, cutAt, both, Run, formatted, called, unfit, cut, cutUnfit, leaving, commitsOf, committedBy, foundBy, together, InRange, Safe}
-use Rattle.promises.specs.Corollaries.{Begins, itself, byCall, byUnfit, byCut, byCutUnfit, StaysSettled, endsOf, endedBy, Among, none, left, taken, ShownTogether, AllOrNothing, NoTrace, OpensAlike}
+use Rattle.promises.specs.Book.{gone, Book, blank, counted, committed, stepped, steppedOver}
+use Rattle.promises.specs.Events.{Sizes, World, Call, opening, begin, describe, ending, logStep, cleanStep, reading, settling, Lent, fallen}
+use Rattle.promises.specs.Answers.{Reply, shows, says, accepts}
+use Rattle.promises.specs.Claim.{bookedBy, isOpen, leavingBy, Steps, entered, cutAt, both, Run, formatted, called, unfit, cut, cutUnfit, leaving, commitsOf, committedBy, foundBy, together, InRange, Safe}
+use Rattle.promises.specs.Corollaries.{RepliesRight, EveryReply, endingBy, Begins, itself, byCall, byUnfit, byCut, byCutUnfit, StaysSettled, endsOf, endedBy, Among, none, left, taken, ShownTogether, AllOrNothing, NoTrace, OpensAlike}
 use Rattle.promises.proofs.Accounts.{book-accounts}
 use Rattle.promises.proofs.Refines.{Refines, demand-three-by}
 
@@ -27,30 +28,27 @@ m-stepped b (g ∷ rest) = go (ltb (length g) (b .count + 1))
     go true = omega arith
     go false = le-refl (b .m)
 
+m-booked : (c : Call) (b : Book) → b .m ≤ bookedBy c b .m
+m-booked (opening frames staging) b = le-refl (b .m)
+m-booked (begin u) b = le-refl (b .m)
+m-booked (describe u) b = le-refl (b .m)
+m-booked ending b = le-refl (b .m)
+m-booked logStep b = m-stepped b (b .queue)
+m-booked cleanStep b = le-refl (b .m)
+m-booked (reading p) b = le-refl (b .m)
+m-booked (settling t) b = le-refl (b .m)
+
 m-entered : (c : Call) (ok : Bool) (b : Book) → b .m ≤ entered c ok b .m
-m-entered (opening frames staging) ok b = le-refl (b .m)
-m-entered (begin u) true b = le-refl (b .m)
-m-entered (begin u) false b = le-refl (b .m)
-m-entered (describe u) true b = le-refl (b .m)
-m-entered (describe u) false b = le-refl (b .m)
-m-entered ending true b = le-refl (b .m)
-m-entered ending false b = le-refl (b .m)
-m-entered logStep true b = m-stepped b (b .queue)
-m-entered logStep false b = le-refl (b .m)
-m-entered cleanStep ok b = le-refl (b .m)
-m-entered (reading p) ok b = le-refl (b .m)
-m-entered (settling t) ok b = le-refl (b .m)
+m-entered c true b = m-booked c b
+m-entered c false b = go (isOpen c)
+  where
+    go : (o : Bool) → b .m ≤ cond {A = Book} o (gone b) b .m
+    go true = le-refl (b .m)
+    go false = le-refl (b .m)
 
 m-cut : (c : Call) (stored : Bool) (b : Book) → b .m ≤ cutAt c stored b .m
-m-cut (opening frames staging) stored b = le-refl (b .m)
-m-cut (begin u) stored b = le-refl (b .m)
-m-cut (describe u) stored b = le-refl (b .m)
-m-cut ending stored b = le-refl (b .m)
-m-cut logStep true b = m-stepped b (b .queue)
-m-cut logStep false b = le-refl (b .m)
-m-cut cleanStep stored b = le-refl (b .m)
-m-cut (reading p) stored b = le-refl (b .m)
-m-cut (settling t) stored b = le-refl (b .m)
+m-cut c true b = m-booked c b
+m-cut c false b = le-refl (b .m)
 
 m-grows : {by : Steps} {z : Sizes} {w : World} {b : Book} {run : Run by z w b} {w′ : World} {b′ : Book} {run′ : Run by z w′ b′}
     → Begins run w′ b′ run′ → b .m ≤ b′ .m
@@ -103,56 +101,50 @@ stepping gs all b (g ∷ rest) e h = go (ltb (length g) (b .count + 1))
     go true = rw (append-assoc gs (g ∷ []) rest, append-nil all) h
     go false = rw e (quiet gs (g ∷ rest) all h)
 
-on-call : (gs all : List (List Update)) (b : Book) → Waits gs (b .queue) all → (c : Call) (ok : Bool)
-    → Waits (gs ++ commitsOf c ok b) (entered c ok b .queue) (all ++ endsOf c ok b)
-on-call gs all b h (opening frames staging) ok = forgets gs (b .queue) all h
-on-call gs all b h (begin u) true = quiet gs (b .queue) all h
-on-call gs all b h (begin u) false = quiet gs (b .queue) all h
-on-call gs all b h (describe u) true = quiet gs (b .queue) all h
-on-call gs all b h (describe u) false = quiet gs (b .queue) all h
-on-call gs all b h ending true =
+accepted-call : (gs all : List (List Update)) (b : Book) → Waits gs (b .queue) all → (c : Call)
+    → Waits (gs ++ leavingBy c b) (bookedBy c b .queue) (all ++ endingBy c b)
+accepted-call gs all b h (opening frames staging) = forgets gs (b .queue) all h
+accepted-call gs all b h (begin u) = quiet gs (b .queue) all h
+accepted-call gs all b h (describe u) = quiet gs (b .queue) all h
+accepted-call gs all b h ending =
     rw (append-nil gs, ← (append-assoc gs (b .queue) (b .list ∷ []))) (among-append h (taken (b .list) none))
-on-call gs all b h ending false = quiet gs (b .queue) all h
-on-call gs all b h logStep true = stepping gs all b (b .queue) refl h
-on-call gs all b h logStep false = quiet gs (b .queue) all h
-on-call gs all b h cleanStep ok = quiet gs (b .queue) all h
-on-call gs all b h (reading p) ok = quiet gs (b .queue) all h
-on-call gs all b h (settling t) ok = quiet gs (b .queue) all h
-
--- after a cut nothing waits
-on-cut : (gs all : List (List Update)) (b : Book) → Waits gs (b .queue) all → (c : Call) (stored : Bool)
-    → Waits (gs ++ commitsOf c stored b) (cutAt c stored b .queue) all
-on-cut gs all b h (opening frames staging) stored = rw (append-nil gs, append-nil gs) (front gs (b .queue) h)
-on-cut gs all b h (begin u) stored = rw (append-nil gs, append-nil gs) (front gs (b .queue) h)
-on-cut gs all b h (describe u) stored = rw (append-nil gs, append-nil gs) (front gs (b .queue) h)
-on-cut gs all b h ending stored = rw (append-nil gs, append-nil gs) (front gs (b .queue) h)
-on-cut gs all b h logStep true =
-    rw (append-nil (gs ++ leaving (b .count) (b .queue)))
-    (rw (append-nil all) at (front (gs ++ leaving (b .count) (b .queue)) (stepped b .queue) (stepping gs all b (b .queue) refl h)))
-on-cut gs all b h logStep false = rw (append-nil gs, append-nil gs) (front gs (b .queue) h)
-on-cut gs all b h cleanStep stored = rw (append-nil gs, append-nil gs) (front gs (b .queue) h)
-on-cut gs all b h (reading p) stored = rw (append-nil gs, append-nil gs) (front gs (b .queue) h)
-on-cut gs all b h (settling t) stored = rw (append-nil gs, append-nil gs) (front gs (b .queue) h)
+accepted-call gs all b h logStep = stepping gs all b (b .queue) refl h
+accepted-call gs all b h cleanStep = quiet gs (b .queue) all h
+accepted-call gs all b h (reading p) = quiet gs (b .queue) all h
+accepted-call gs all b h (settling t) = quiet gs (b .queue) all h
 
 refused-call : (gs all : List (List Update)) (b : Book) → Waits gs (b .queue) all → (c : Call) → Waits gs (entered c false b .queue) all
-refused-call gs all b h (opening frames staging) = rw (append-nil gs) (front gs (b .queue) h)
-refused-call gs all b h (begin u) = h
-refused-call gs all b h (describe u) = h
-refused-call gs all b h ending = h
-refused-call gs all b h logStep = h
-refused-call gs all b h cleanStep = h
-refused-call gs all b h (reading p) = h
-refused-call gs all b h (settling t) = h
+refused-call gs all b h c = go (isOpen c)
+  where
+    go : (o : Bool) → Waits gs (cond {A = Book} o (gone b) b .queue) all
+    go true = rw (append-nil gs) (front gs (b .queue) h)
+    go false = h
 
+on-call : (gs all : List (List Update)) (b : Book) → Waits gs (b .queue) all → (c : Call) (ok : Bool)
+    → Waits (gs ++ commitsOf c ok b) (entered c ok b .queue) (all ++ endsOf c ok b)
+on-call gs all b h c true = accepted-call gs all b h c
+on-call gs all b h c false = quiet gs (entered c false b .queue) all (refused-call gs all b h c)
+
+-- after a cut nothing waits
 refused-cut : (gs all : List (List Update)) (b : Book) → Waits gs (b .queue) all → (c : Call) → Waits gs (cutAt c false b .queue) all
-refused-cut gs all b h (opening frames staging) = rw (append-nil gs) (front gs (b .queue) h)
-refused-cut gs all b h (begin u) = rw (append-nil gs) (front gs (b .queue) h)
-refused-cut gs all b h (describe u) = rw (append-nil gs) (front gs (b .queue) h)
-refused-cut gs all b h ending = rw (append-nil gs) (front gs (b .queue) h)
-refused-cut gs all b h logStep = rw (append-nil gs) (front gs (b .queue) h)
-refused-cut gs all b h cleanStep = rw (append-nil gs) (front gs (b .queue) h)
-refused-cut gs all b h (reading p) = rw (append-nil gs) (front gs (b .queue) h)
-refused-cut gs all b h (settling t) = rw (append-nil gs) (front gs (b .queue) h)
+refused-cut gs all b h c = rw (append-nil gs) (front gs (b .queue) h)
+
+stored-cut : (gs all : List (List Update)) (b : Book) → Waits gs (b .queue) all → (c : Call) → Waits (gs ++ leavingBy c b) [] all
+stored-cut gs all b h (opening frames staging) = rw (append-nil gs, append-nil gs) (front gs (b .queue) h)
+stored-cut gs all b h (begin u) = rw (append-nil gs, append-nil gs) (front gs (b .queue) h)
+stored-cut gs all b h (describe u) = rw (append-nil gs, append-nil gs) (front gs (b .queue) h)
+stored-cut gs all b h ending = rw (append-nil gs, append-nil gs) (front gs (b .queue) h)
+stored-cut gs all b h logStep =
+    rw (append-nil (gs ++ leaving (b .count) (b .queue)))
+    (rw (append-nil all) at (front (gs ++ leaving (b .count) (b .queue)) (stepped b .queue) (stepping gs all b (b .queue) refl h)))
+stored-cut gs all b h cleanStep = rw (append-nil gs, append-nil gs) (front gs (b .queue) h)
+stored-cut gs all b h (reading p) = rw (append-nil gs, append-nil gs) (front gs (b .queue) h)
+stored-cut gs all b h (settling t) = rw (append-nil gs, append-nil gs) (front gs (b .queue) h)
+
+on-cut : (gs all : List (List Update)) (b : Book) → Waits gs (b .queue) all → (c : Call) (stored : Bool)
+    → Waits (gs ++ commitsOf c stored b) (cutAt c stored b .queue) all
+on-cut gs all b h c true = stored-cut gs all b h c
+on-cut gs all b h c false = rw (append-nil gs) (refused-cut gs all b h c)
 
 as-book : (gs all : List (List Update)) (b b′ : Book) → b′ ≡ b → Waits gs (b .queue) all → Waits gs (b′ .queue) all
 as-book gs all b b′ e h = subst (λ (x : Book). Waits gs (x .queue) all) (sym e) h
@@ -172,12 +164,12 @@ waits by z w b (cutUnfit {world = w₀} {book = b₀} c a lent lent′ frames st
     as-book (committedBy run) (endedBy run) (cutAt c false b₀) b q (refused-cut (committedBy run) (endedBy run) b₀ (waits by z w₀ b₀ run) c)
 
 -- ---- a cut that commits nothing leaves the pages
-pages-cut : (c : Call) (stored : Bool) (b : Book) → commitsOf c stored b ≡ [] → (p : ℕ) → cutAt c stored b .pages p ≡ b .pages p
-pages-cut (opening frames staging) stored b e p = refl
-pages-cut (begin u) stored b e p = refl
-pages-cut (describe u) stored b e p = refl
-pages-cut ending stored b e p = refl
-pages-cut logStep true b e p = go (b .queue) e
+pages-booked : (c : Call) (b : Book) → leavingBy c b ≡ [] → (p : ℕ) → bookedBy c b .pages p ≡ b .pages p
+pages-booked (opening frames staging) b e p = refl
+pages-booked (begin u) b e p = refl
+pages-booked (describe u) b e p = refl
+pages-booked ending b e p = refl
+pages-booked logStep b e p = go (b .queue) e
   where
     one : (g : List Update) (rest : List (List Update)) (c : Bool) → cond c (g ∷ []) [] ≡ [] → cond {A = Book} c (committed b g rest) (counted b) .pages p ≡ b .pages p
     one g rest true e = let n : _≡_ {A = ℕ} 0 1 = cc in absurd (omega arith)
@@ -186,12 +178,29 @@ pages-cut logStep true b e p = go (b .queue) e
     go : (queue : List (List Update)) → leaving (b .count) queue ≡ [] → steppedOver b queue .pages p ≡ b .pages p
     go [] e = refl
     go (g ∷ rest) e = one g rest (ltb (length g) (b .count + 1)) e
-pages-cut logStep false b e p = refl
-pages-cut cleanStep stored b e p = refl
-pages-cut (reading q) stored b e p = refl
-pages-cut (settling t) stored b e p = refl
+pages-booked cleanStep b e p = refl
+pages-booked (reading q) b e p = refl
+pages-booked (settling t) b e p = refl
+
+pages-cut : (c : Call) (stored : Bool) (b : Book) → commitsOf c stored b ≡ [] → (p : ℕ) → cutAt c stored b .pages p ≡ b .pages p
+pages-cut c true b e p = pages-booked c b e p
+pages-cut c false b e p = refl
+
+-- Open, accepted or refused
+gone-either : (ok : Bool) (b : Book) → gone b ≡ cond ok (gone b) (gone b)
+gone-either true b = refl
+gone-either false b = refl
 
 module _ (by : Steps) (r : Refines by) where
+  pub every-reply : EveryReply by
+  unfolding RepliesRight
+  every-reply z range w b (formatted log log′ home frames staging a l h f e q) = tt
+  every-reply z range w b (called {world = w₀} {book = b₀} c a run l st e) =
+      (λ ok. demand-three-by by r z range w₀ b₀ run .answers c a w l st ok, every-reply z range w₀ b₀ run)
+  every-reply z range w b (unfit {world = w₀} {book = b₀} c a lent lent′ run same st x e q) = every-reply z range w₀ b₀ run
+  every-reply z range w b (cut {world = w₀} {book = b₀} c a w′ stored frames staging run l st e q) = every-reply z range w₀ b₀ run
+  every-reply z range w b (cutUnfit {world = w₀} {book = b₀} c a lent lent′ frames staging run same st x e q) = every-reply z range w₀ b₀ run
+
   pub stays-settled : StaysSettled by
   stays-settled z range w b run t h w′ b′ run′ more a w″ st ok =
       demand-three-by by r z range w′ b′ run′ .answers (settling t) a w″ tt st ok
@@ -201,8 +210,8 @@ module _ (by : Steps) (r : Refines by) where
   opens-alike z range w b run frames staging frames′ staging′ a a′ w′ w″ l st l′ st′ p h x y last last′ rd rd′ =
       let safe = demand-three-by by r z range w b run in
       let e : a ≡ _ = safe .opens frames staging a w′ l st in
-      let run′ = called (opening frames staging) a run l st refl in
-      let safe′ = demand-three-by by r z range w′ _ run′ in (
+      let run′ : Run by z w′ (gone b) = called (opening frames staging) a run l st (gone-either (accepts a) b) in
+      let safe′ = demand-three-by by r z range w′ (gone b) run′ in (
         e ∙ sym (safe′ .opens frames′ staging′ a′ w″ l′ st′),
         safe .reads frames staging a w′ l st p x last h rd ∙ sym (safe′ .reads frames′ staging′ a′ w″ l′ st′ p y last′ h rd′),
       )

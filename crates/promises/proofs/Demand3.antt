@@ -15,34 +15,14 @@ use Rattle.promises.specs.declared.Answer.{Answer}
 use Rattle.promises.specs.Areas.{pageAt}
 use Rattle.promises.specs.Blocks.{LogBlock}
 use Rattle.promises.specs.Walk.{Finding, stops, stands}
-use Rattle.promises.specs.Contents.{allZeroState}
+use Rattle.promises.specs.States.{allZeroState}
 use Rattle.promises.specs.Sound.{sound}
 use Rattle.promises.specs.Format.{formatRefusal, Formats}
 use Rattle.promises.specs.Open.{openFinding}
 use Rattle.promises.specs.Book.{Book, blank, begun, described, ended, stepped, gone}
-use Rattle.promises.specs.Events.{
-  Sizes,
-  World,
-  withState,
-  Call,
-  opening,
-  begin,
-  describe,
-  ending,
-  logStep,
-  cleanStep,
-  reading,
-  settling,
-  Reply,
-  refuses,
-  settles,
-  accepts,
-  openAnswered,
-  Step,
-  Lent,
-  fallen,
-}
-use Rattle.promises.specs.Claim.{entered, cutAt, both, promised, Run, formatted, called, unfit, cut, cutUnfit, Right, Claim}
+use Rattle.promises.specs.Events.{Sizes, World, withState, Call, opening, begin, describe, ending, logStep, cleanStep, reading, settling, Step, Lent, fallen}
+use Rattle.promises.specs.Answers.{Reply, refuses, settles, accepts, openAnswered, numberIn}
+use Rattle.promises.specs.Claim.{bookedBy, isOpen, entered, cutAt, both, promised, Run, formatted, called, unfit, cut, cutUnfit, Right, Claim}
 use Rattle.promises.proofs.History.Machine.{lastKeep}
 use Rattle.promises.proofs.History.Views.{viewFrom}
 use Rattle.promises.proofs.History.HalfEnd.{none}
@@ -53,7 +33,8 @@ use Rattle.promises.proofs.History.Whole.{same-book, tally-none}
 use Rattle.promises.proofs.Soundness.{all-zero-unsound}
 use Rattle.promises.proofs.Slots.{size-slots, blank-slots}
 use Rattle.promises.proofs.Ranges.{Ranged, ranged}
-use Rattle.promises.proofs.Replies.{no-accept, refused-number, end-refused-number, log-refused-number, accepted-done}
+use Rattle.promises.proofs.Replies.{no-accept, number-by, accepted-is}
+use Rattle.promises.proofs.Promised.{log-number}
 use Rattle.promises.proofs.Kept.{Good}
 use Rattle.promises.proofs.QuietCalls.{do-begin, do-describe, do-ending, answer-ending, answer-settling, answer-reading}
 use Rattle.promises.specs.Stored.{storedIn, storedBy}
@@ -63,16 +44,22 @@ use Rattle.promises.proofs.CleanSteps.{do-clean}
 use Rattle.promises.proofs.Openings.{opens-right, do-open, reads-right}
 
 -- ---- a call
+
+-- a book that is the same, accepted or refused
+either-way : (z : Sizes) (w : World) (b : Book) {h : List LogBlock} (ok : Bool) → Good z w b h → Good z w (cond ok b b) h
+either-way z w b true g = g
+either-way z w b false g = g
+
 do-call : (z : Sizes) (range : Ranged z) (w : World) (b : Book) {h : List LogBlock} → Good z w b h → (c : Call) (a : Reply) (w′ : World) → Lent z c → Step c w a w′
     → Good z w′ (entered c (accepts a) b) (h ++ storedIn z c (accepts a) w w′)
-do-call z range w b g (opening frames staging) a w′ l st = none-stored (do-open z range w b g frames staging (l .0) (l .1) a w′ st)
+do-call z range w b g (opening frames staging) a w′ l st = none-stored (either-way z w′ (gone b) (accepts a) (do-open z range w b g frames staging (l .0) (l .1) a w′ st))
 do-call z range w b g (begin u) a w′ l st = none-stored (do-begin z w b g u a w′ st)
 do-call z range w b g (describe u) a w′ l st = none-stored (do-describe z w b g u a w′ st)
 do-call z range w b g ending a w′ l st = none-stored (do-ending z w b g a w′ st)
 do-call z range w b g logStep a w′ l st = do-log z range w b g a w′ st
-do-call z range w b g cleanStep a w′ l st = do-clean z range w b g a w′ st
-do-call z range w b g (reading p) a w′ l st = rw (st .after) (none-stored g)
-do-call z range w b g (settling t) a w′ l st = rw (st .after) (none-stored g)
+do-call z range w b g cleanStep a w′ l st = either-way z w′ b (accepts a) (do-clean z range w b g a w′ st)
+do-call z range w b {h} g (reading p) a w′ l st = none-stored (either-way z w′ b (accepts a) (subst (λ (v : World). Good z v b h) (sym (st .after)) g))
+do-call z range w b {h} g (settling t) a w′ l st = none-stored (either-way z w′ b (accepts a) (subst (λ (v : World). Good z v b h) (sym (st .after)) g))
 
 -- ---- a cut: only log and home are left, and what the book keeps of them
 pub not-sound : {X : Type 0} → sound allZeroState ≡ true → X
@@ -107,18 +94,12 @@ do-cut z range w b {h} g c a w′ false frames staging l st = go c
 do-cut z range w b {h} g c a w′ true frames staging l st = go c (accepts a) (do-call z range w b g c a w′ l st)
   where
     go : (c : Call) (ok : Bool) → Good z w′ (entered c ok b) (h ++ storedIn z c ok w w′) → Good z (fallen w′ frames staging) (cutAt c ok b) (h ++ storedIn z c ok w w′)
-    go (opening f s) ok x = fall z w′ (gone b) frames staging x
-    go (begin u) true x = fall z w′ (begun b) frames staging x
-    go (begin u) false x = fall z w′ b frames staging x
-    go (describe u) true x = fall z w′ (described u b) frames staging x
-    go (describe u) false x = fall z w′ b frames staging x
-    go ending true x = fall z w′ (ended b) frames staging x
-    go ending false x = fall z w′ b frames staging x
-    go logStep true x = fall z w′ (stepped b) frames staging x
-    go logStep false x = fall z w′ b frames staging x
-    go cleanStep ok x = fall z w′ b frames staging x
-    go (reading p) ok x = fall z w′ b frames staging x
-    go (settling t) ok x = fall z w′ b frames staging x
+    go c true x = fall z w′ (bookedBy c b) frames staging x
+    go c false x = by (isOpen c) x
+      where
+        by : (o : Bool) → Good z w′ (cond o (gone b) b) (h ++ storedIn z c false w w′) → Good z (fallen w′ frames staging) (gone b) (h ++ storedIn z c false w w′)
+        by true x = fall z w′ (gone b) frames staging x
+        by false x = fall z w′ b frames staging x
 
 -- ---- a call that is lent other areas
 -- its state is as it was, or all-zero after an Open
@@ -138,23 +119,23 @@ unfit-state (opening frames staging) n a w w′ h e st = go (openFinding (w .log
     go : (x : Finding) → openFinding (w .log) (w .home) (length frames) (length staging) ≡ x → w′ .state ≡ allZeroState
     go (stops m j) q = ap (λ (v : World). v .state) (st .after) ∙ st .promise .refused m j q .stateIs
     go (stands m v) q =
-        let k : refuses n ≡ settles (v .ticket) = sym e ∙ st .replyIs ∙ ap openAnswered (st .promise .accepted m v q .answerIs) in
+        let k : refuses n ≡ settles (v .ticket) = sym e ∙ st .replyIs ∙ st .promise .accepted m v q .answerIs in
         no-accept (ap accepts k)
 unfit-state (begin u) n a w w′ h e st =
-    let r = refused-number (st .result .answer) n (sym (st .replyIs) ∙ e) in
-    ap (λ (v : World). v .state) (st .after) ∙ st .promise .refused (λ q. absurd (omega (arith, r, st .promise .refusal)))
+    let r = sym (number-by _ _ _ (st .promise .answerIs) refl) ∙ ap numberIn (sym (st .replyIs) ∙ e) in
+    ap (λ (v : World). v .state) (st .after) ∙ st .promise .refused (λ q. absurd (omega (arith, r)))
 unfit-state (describe u) n a w w′ h e st =
-    let r = refused-number (st .result .answer) n (sym (st .replyIs) ∙ e) in
-    ap (λ (v : World). v .state) (st .after) ∙ st .promise .refused (λ q. absurd (omega (arith, r, st .promise .refusal))) .0
+    let r = sym (number-by _ _ _ (st .promise .answerIs) refl) ∙ ap numberIn (sym (st .replyIs) ∙ e) in
+    ap (λ (v : World). v .state) (st .after) ∙ st .promise .refused (λ q. absurd (omega (arith, r))) .0
 unfit-state ending n a w w′ h e st =
-    let r = end-refused-number (st .result .answer) n (sym (st .replyIs) ∙ e) in
-    ap (λ (v : World). v .state) (st .after) ∙ st .promise .refused (λ q. absurd (omega (arith, r, st .promise .refusal)))
+    let r = sym (number-by _ _ _ (st .promise .answerIs) refl) ∙ ap numberIn (sym (st .replyIs) ∙ e) in
+    ap (λ (v : World). v .state) (st .after) ∙ st .promise .refused (λ q. absurd (omega (arith, r)))
 unfit-state logStep n a w w′ h e st =
-    let r = log-refused-number (st .result .answer) n (sym (st .replyIs) ∙ e) in
-    ap (λ (v : World). v .state) (st .after) ∙ st .promise .refused (λ q. absurd (omega (arith, r, st .promise .refusal))) .0
+    let r = sym (log-number _ _ _ _ _ _ _ _ (st .promise)) ∙ ap numberIn (sym (st .replyIs) ∙ e) in
+    ap (λ (v : World). v .state) (st .after) ∙ st .promise .refused (λ q. absurd (omega (arith, r))) .1
 unfit-state cleanStep n a w w′ h e st =
-    let r = refused-number (st .result .answer) n (sym (st .replyIs) ∙ e) in
-    ap (λ (v : World). v .state) (st .after) ∙ st .promise .refused (λ q. absurd (omega (arith, r, st .promise .refusal))) .0
+    let r = sym (number-by _ _ _ (st .promise .answerIs) refl) ∙ ap numberIn (sym (st .replyIs) ∙ e) in
+    ap (λ (v : World). v .state) (st .after) ∙ st .promise .refused (λ q. absurd (omega (arith, r))) .0
 unfit-state (reading p) n a w w′ h e st = ap (λ (v : World). v .state) (st .after)
 unfit-state (settling t) n a w w′ h e st = ap (λ (v : World). v .state) (st .after)
 
@@ -215,7 +196,7 @@ on-formatted : (z : Sizes) (range : Ranged z) (w : World) (b : Book) (log log′
 on-formatted z range w b log log′ home frames staging r l h f e q =
     let n : length log / 512 ≡ z .slots = omega arith in
     let ok : formatRefusal (length log) ≡ 0 = rw n (simp (eq-eqb (z .slots * 512) (length log) (sym l), le-leb 8 (z .slots) (range .slots .0), le-leb (z .slots) 1024 (range .slots .1))) in
-    rw (e, q, f .accepted ok .1) (at-start z range log home frames staging l h)
+    rw (e, q, f .accepted ok) (at-start z range log home frames staging l h)
 
 on-called : (z : Sizes) (range : Ranged z) (w w′ : World) (b b′ : Book) {h : List LogBlock} (c : Call) (a : Reply) → Good z w b h → Lent z c → Step c w a w′ → b′ ≡ entered c (accepts a) b
     → Good z w′ b′ (h ++ storedIn z c (accepts a) w w′)
@@ -236,17 +217,7 @@ on-cut z range w w″ b b″ {h} c a w′ stored frames staging g l st e q =
 on-cut-unfit : (z : Sizes) (w w″ : World) (b b″ : Book) {h : List LogBlock} (c : Call) (frames staging : List ℕ) → Good z w b h → w″ ≡ fallen w frames staging
     → b″ ≡ cutAt c false b → Good z w″ b″ h
 on-cut-unfit z w w″ b b″ {h} c frames staging g e q =
-    subst (λ (v : World). Good z v b″ h) (sym e) (subst (λ (x : Book). Good z (fallen w frames staging) x h) (sym q) (go c))
-  where
-    go : (c : Call) → Good z (fallen w frames staging) (cutAt c false b) h
-    go (opening f s) = fall z w b frames staging g
-    go (begin u) = fall z w b frames staging g
-    go (describe u) = fall z w b frames staging g
-    go ending = fall z w b frames staging g
-    go logStep = fall z w b frames staging g
-    go cleanStep = fall z w b frames staging g
-    go (reading p) = fall z w b frames staging g
-    go (settling t) = fall z w b frames staging g
+    subst (λ (v : World). Good z v b″ h) (sym e) (subst (λ (x : Book). Good z (fallen w frames staging) x h) (sym q) (fall z w b frames staging g))
 
 -- THE HISTORY IS THE LIST OF THE BLOCKS THAT THE RUN STORED
 pub good : (z : Sizes) → Ranged z → (w : World) (b : Book) (run : Run promised z w b) → Good z w b (storedBy run)
@@ -261,11 +232,11 @@ good z range w b (cutUnfit {world = w₀} {book = b₀} c a lent lent′ frames 
 -- ---- the answers
 answer : (z : Sizes) (range : Ranged z) (w : World) (b : Book) {h : List LogBlock} → Good z w b h → (c : Call) (a : Reply) (w′ : World) → Lent z c → Step c w a w′ → accepts a ≡ true → Right c a b
 answer z range w b g (opening frames staging) a w′ l st ok = opens-right z range w b g frames staging (l .0) (l .1) a w′ st
-answer z range w b g (begin u) a w′ l st ok = st .replyIs ∙ accepted-done (st .result .answer) (ap accepts (sym (st .replyIs)) ∙ ok)
-answer z range w b g (describe u) a w′ l st ok = st .replyIs ∙ accepted-done (st .result .answer) (ap accepts (sym (st .replyIs)) ∙ ok)
+answer z range w b g (begin u) a w′ l st ok = st .replyIs ∙ accepted-is _ _ _ (st .promise .answerIs) (ap accepts (sym (st .replyIs)) ∙ ok)
+answer z range w b g (describe u) a w′ l st ok = st .replyIs ∙ accepted-is _ _ _ (st .promise .answerIs) (ap accepts (sym (st .replyIs)) ∙ ok)
 answer z range w b g ending a w′ l st ok = answer-ending z w b g a w′ st ok
 answer z range w b g logStep a w′ l st ok = answer-log z range w b g a w′ st ok
-answer z range w b g cleanStep a w′ l st ok = st .replyIs ∙ accepted-done (st .result .answer) (ap accepts (sym (st .replyIs)) ∙ ok)
+answer z range w b g cleanStep a w′ l st ok = st .replyIs ∙ accepted-is _ _ _ (st .promise .answerIs) (ap accepts (sym (st .replyIs)) ∙ ok)
 answer z range w b g (reading p) a w′ l st ok = answer-reading z w b g p a w′ st ok
 answer z range w b g (settling t) a w′ l st ok = answer-settling z w b g t a w′ st ok
 

@@ -21,29 +21,12 @@ use Rattle.promises.specs.Contents.{Contents, contentsOf, groupsOf, grou
 use Rattle.promises.specs.Sound.{member, distinct, allBelow, allLegal, stagedOf, areasOf, sound}
 use Rattle.block.specs.Legal.{legalPlace}
 use Rattle.promises.specs.Sums.{openOnes}
-use Rattle.promises.specs.Describe.{describeRefusal, Describes}
-use Rattle.promises.specs.Book.{described}
+use Rattle.promises.specs.Describe.{describeRefusal, describedState, Describes}
+use Rattle.promises.specs.Answers.{done}
+use Rattle.promises.proofs.Replies.{replied-accepted}
 use Rattle.promises.proofs.Soundness.{and-both, and2, Sound, sound-of, of-sound}
 use Rattle.promises.proofs.Changes.{describe-passed}
 use Rattle.area.proofs.Parts.{part-same, part-before, part-after, length-splice, either}
-
--- one update more, in the place after those that wait
-abbrev pub added : State → Staged → State
-added s u = record {
-  pages = s .pages;
-  slots = s .slots;
-  frames = s .frames;
-  next = s .next;
-  ticket = s .ticket;
-  dirty = s .dirty;
-  staged = set (s .staged) (total (groupsOf s) + s .described) u;
-  groups = s .groups;
-  queued = s .queued;
-  stored = s .stored;
-  reserved = s .reserved;
-  described = s .described + 1;
-  cleaning = s .cleaning;
-}
 
 -- ---- lists
 map-take : {A B : Type 0} (f : A → B) (n : ℕ) (l : List A) → take n (map f l) ≡ map f (take n l)
@@ -125,15 +108,15 @@ module _ (s : State) (f : Sound s) (u : Staged) (room : total (groupsOf s) + s .
   abbrev k : ℕ
   k = total (groupsOf s) + s .described
 
-  staged-added : stagedOf (added s u) ≡ stagedOf s ++ (u ∷ [])
+  staged-added : stagedOf (describedState s u) ≡ stagedOf s ++ (u ∷ [])
   staged-added =
       let e : total (groupsOf s) + (s .described + 1) ≡ suc k = omega arith in
       ap (λ (n : ℕ). take n (set (s .staged) k u)) e ∙ take-suc-set (s .staged) k u room
 
-  areas-added : areasOf (stagedOf (added s u)) ≡ areasOf (stagedOf s) ++ (u .area ∷ [])
+  areas-added : areasOf (stagedOf (describedState s u)) ≡ areasOf (stagedOf s) ++ (u .area ∷ [])
   areas-added = ap areasOf staged-added ∙ areas-snoc (stagedOf s) u
 
-  pub sound-added : Sound (added s u)
+  pub sound-added : Sound (describedState s u)
   sound-added =
       record {
         pages = f .pages;
@@ -189,11 +172,11 @@ module _ (s : State) (f : Sound s) (u : Staged) (room : total (groupsOf s) + s .
     waiting-same : take k (map (waiting after) (set (s .staged) k u)) ≡ take k (map (waiting staging) (s .staged))
     waiting-same = map-take (waiting after) k (set (s .staged) k u) ∙ ap (map (waiting after)) (take-set-le k (s .staged) k u (omega arith)) ∙ others (stagedOf s) free (f .places) ∙ sym (map-take (waiting staging) k (s .staged))
 
-    queue-same : queueOf (added s u) after ≡ queueOf s staging
+    queue-same : queueOf (describedState s u) after ≡ queueOf s staging
     queue-same = grouped-take (groupsOf s) _ _
         (sym (take-take (total (groupsOf s)) k (map (waiting after) (set (s .staged) k u)) (omega arith)) ∙ ap (take (total (groupsOf s))) waiting-same ∙ take-take (total (groupsOf s)) k (map (waiting staging) (s .staged)) (omega arith))
 
-    list-more : listOf (added s u) after ≡ listOf s staging ++ (record { page = u .page; offset = u .offset; bytes = bytes } ∷ [])
+    list-more : listOf (describedState s u) after ≡ listOf s staging ++ (record { page = u .page; offset = u .offset; bytes = bytes } ∷ [])
     list-more =
         let t : ℕ = total (groupsOf s) in
         let l1 : List Update = map (waiting after) (set (s .staged) k u) in
@@ -215,7 +198,7 @@ module _ (s : State) (f : Sound s) (u : Staged) (room : total (groupsOf s) + s .
 pub describe-met : (s : State) (page offset area : ℕ) (bytes staging : List ℕ) → length (s .staged) ≡ 32
     → describeRefusal s (length staging) page offset (length bytes) ≡ 0 → area < s .frames → member area (areasOf (stagedOf s)) ≡ false
     → Describes s (record { page = page; offset = offset; bytes = bytes }) staging
-    (record { state = added s (record { page = page; offset = offset; length = length bytes; area = area }); answer = Done })
+    (record { state = describedState s (record { page = page; offset = offset; length = length bytes; area = area }); answer = Done })
     (withStaged staging area (length bytes) bytes)
 describe-met s page offset area bytes staging l32 e below free =
     let u : Staged = record { page = page; offset = offset; length = length bytes; area = area } in
@@ -226,16 +209,16 @@ describe-met s page offset area bytes staging l32 e below free =
     let more : s .described < s .reserved = r .4 in
     let room : total (groupsOf s) + s .described < length (s .staged) = omega (arith, f .frameSum, f .frames, o) in
     let lent : length staging ≡ s .frames * 472 = r .1 in
-    let so : sound (added s u) ≡ true = of-sound (added s u) (sound-added s f u room free below (r .3) more) in
+    let so : sound (describedState s u) ≡ true = of-sound (describedState s u) (sound-added s f u room free below (r .3) more) in
     record {
-      refusal = sym e;
+      answerIs = sym (replied-accepted (describeRefusal s (length staging) page offset (length bytes)) done e);
       refused = λ x. absurd (x e);
       accepted = λ x. record {
         area = area;
         areaBelow = below;
         areaFree = free;
         stagingIs = refl;
-        answerIs = refl;
+        stateIs = refl;
         leaves = record {
           staysSound = so;
           contentsAre = rw (queue-same s f u room free below (r .3) more staging bytes refl lent, list-more s f u room free below (r .3) more staging bytes refl lent) refl;

@@ -17,7 +17,7 @@ use Rattle.promises.specs.declared.Cleaning.{Cleaning}
 use Rattle.promises.specs.declared.Cleaning.the-variants.{Idle, First, Second, Third}
 use Rattle.promises.specs.declared.Answer.{Answer}
 use Rattle.promises.specs.Areas.{stagingLength, homeLength, framesLength}
-use Rattle.promises.specs.Contents.{allZeroState}
+use Rattle.promises.specs.States.{allZeroState}
 use Rattle.promises.specs.Sums.{waitingBlocks, sequencesTaken, dirtyCount, lastEnded}
 use Rattle.promises.specs.Sound.{sound}
 use Rattle.promises.specs.Walk.{Finding, stops, stands}
@@ -31,33 +31,13 @@ use Rattle.promises.specs.CleanStep.{thirdRefusal, cleanRefusal}
 use Rattle.promises.specs.Read.{readRefusal}
 use Rattle.promises.specs.Settled.{settledRefusal}
 use Rattle.promises.specs.Book.{Book, blank}
-use Rattle.promises.specs.Events.{
-  Sizes,
-  World,
-  withState,
-  Call,
-  opening,
-  begin,
-  describe,
-  ending,
-  logStep,
-  cleanStep,
-  reading,
-  settling,
-  Reply,
-  refuses,
-  settles,
-  accepts,
-  openAnswered,
-  Step,
-  Lent,
-  leftBy,
-  fallen,
-}
+use Rattle.promises.specs.Events.{Sizes, World, withState, Call, opening, begin, describe, ending, logStep, cleanStep, reading, settling, Step, Lent, leftBy, fallen}
+use Rattle.promises.specs.Answers.{Reply, refuses, settles, accepts, openAnswered, numberIn}
 use Rattle.promises.specs.Claim.{Steps, entered, cutAt, both, Run, formatted, called, unfit, cut, cutUnfit, foundBy}
 use Rattle.promises.specs.Alike.{Alike, asked, Event, calls, callsUnfit, cuts, cutsUnfit, eventsOf, repliesOf, SameDesk, CallsAlike, DesksAlike}
 use Rattle.promises.proofs.Ranges.{Ranged, ranged}
-use Rattle.promises.proofs.Replies.{no-accept, same-refusal, refused-number, end-refused-number, log-refused-number, standing-refused-number, read-refused-number, open-refused-reply}
+use Rattle.promises.proofs.Replies.{no-accept, same-refusal, number-by, read-refused-number}
+use Rattle.promises.proofs.Promised.{log-number}
 use Rattle.promises.proofs.Demand3.{Unfit, unfit-state}
 use Rattle.promises.proofs.Refines.{Refines}
 use Rattle.promises.proofs.OpenFindings.{open-refusals}
@@ -186,35 +166,35 @@ unfit-reply (opening f s) w a w′ st r = ⊎-elim (λ (q : a ≡ refuses 1). q)
     go (stops n j) e q =
         let h = open-refusals (w .log) (w .home) (length f) (length s) n j e in
         let o = st .promise .refused n j e in
-        absurd (h .1 (same-refusal (sym (open-refused-reply (st .result .answer) n (o .refusalIs) (h .0)) ∙ sym (st .replyIs) ∙ q)))
+        absurd (h .1 (same-refusal (sym (o .answerIs) ∙ sym (st .replyIs) ∙ q)))
     go (stands n v) e q =
-        let k : refuses 2 ≡ settles (v .ticket) = sym q ∙ st .replyIs ∙ ap openAnswered (st .promise .accepted n v e .answerIs) in
+        let k : refuses 2 ≡ settles (v .ticket) = sym q ∙ st .replyIs ∙ st .promise .accepted n v e .answerIs in
         no-accept (ap accepts k)
 unfit-reply (begin u) w a w′ st r =
     let s = w .state in
     by-soundness (sound s) _ _ a
     (choice-not-two (beginInRange s u) (choice-not-two (eqb (s .reserved) 0) (choice-not-two (leb (s .next + waitingBlocks s + u + 1) sequenceEnd) (choice-not-two (beginHasRoom s u) (eqb-false 0 2 refl) (eqb-false 5 2 refl)) (eqb-false 6 2 refl)) (eqb-false 4 2 refl)) (eqb-false 3 2 refl))
-    (st .promise .refusal) (λ k q. refused-number (st .result .answer) k (sym (st .replyIs) ∙ q)) r
+    (number-by _ _ _ (st .promise .answerIs) refl) (λ k q. ap numberIn (sym (st .replyIs) ∙ q)) r
 unfit-reply (describe u) w a w′ st r =
     let s = w .state in
     by-soundness (sound s) _ _ a
     (choice-not-two (eqb (length (w .staging)) (stagingLength (s .frames))) (choice-not-two (eqb (s .reserved) 0) (eqb-false 4 2 refl)
     (choice-not-two (legalPlace (s .pages) (u .page) (u .offset) (length (u .bytes))) (choice-not-two (ltb (s .described) (s .reserved)) (eqb-false 0 2 refl) (eqb-false 5 2 refl)) (eqb-false 3 2 refl))) (eqb-false 1 2 refl))
-    (st .promise .refusal) (λ k q. refused-number (st .result .answer) k (sym (st .replyIs) ∙ q)) r
+    (number-by _ _ _ (st .promise .answerIs) refl) (λ k q. ap numberIn (sym (st .replyIs) ∙ q)) r
 unfit-reply ending w a w′ st r =
     let s = w .state in
     by-soundness (sound s) _ _ a (choice-not-two (eqb (s .reserved) 0) (eqb-false 4 2 refl) (choice-not-two (eqb (s .described) 0) (eqb-false 10 2 refl) (eqb-false 0 2 refl)))
-    (st .promise .refusal) (λ k q. end-refused-number (st .result .answer) k (sym (st .replyIs) ∙ q)) r
+    (number-by _ _ _ (st .promise .answerIs) refl) (λ k q. ap numberIn (sym (st .replyIs) ∙ q)) r
 unfit-reply logStep w a w′ st r =
     let s = w .state in
     by-soundness (sound s) _ _ a
     (choice-not-two (areasFit s (length (w .log)) (length (w .home)) (length (w .frames)) && eqb (length (w .staging)) (stagingLength (s .frames))) (choice-not-two (eqb (s .queued) 0) (eqb-false 10 2 refl) (eqb-false 0 2 refl)) (eqb-false 1 2 refl))
-    (st .promise .refusal) (λ k q. log-refused-number (st .result .answer) k (sym (st .replyIs) ∙ q)) r
+    (log-number _ _ _ _ _ _ _ _ (st .promise)) (λ k q. ap numberIn (sym (st .replyIs) ∙ q)) r
 unfit-reply cleanStep w a w′ st r =
     let s = w .state in
     by-soundness (sound s) _ _ a
     (choice-not-two (areasFit s (length (w .log)) (length (w .home)) (length (w .frames))) (choice-not-two (eqb (dirtyCount s) 0) (eqb-false 10 2 refl) (third-not-two s (s .cleaning))) (eqb-false 1 2 refl))
-    (st .promise .refusal) (λ k q. refused-number (st .result .answer) k (sym (st .replyIs) ∙ q)) r
+    (number-by _ _ _ (st .promise .answerIs) refl) (λ k q. ap numberIn (sym (st .replyIs) ∙ q)) r
 unfit-reply (reading p) w a w′ st r =
     let s = w .state in
     by-soundness (sound s) _ _ a
@@ -223,7 +203,7 @@ unfit-reply (reading p) w a w′ st r =
 unfit-reply (settling t) w a w′ st r =
     let s = w .state in
     by-soundness (sound s) _ _ a (choice-not-two (leb 1 t && leb t (lastEnded s)) (eqb-false 0 2 refl) (eqb-false 3 2 refl))
-    (st .promise .refusal) (λ k q. standing-refused-number (st .result) k (sym (st .replyIs) ∙ q)) r
+    (number-by _ _ _ (st .promise .answerIs) refl) (λ k q. ap numberIn (sym (st .replyIs) ∙ q)) r
 
 -- its state is as it was, or all-zero after an Open
 same-unfit : (w v : World) → Alike w v → (c : Call) (s t : State) → Unfit c (w .state) s → Unfit c (v .state) t → Alike (withState w s) (withState v t)
@@ -259,7 +239,7 @@ on-formatted : (z : Sizes) → Ranged z → (w v : World) (log log′ home frame
 on-formatted z range w v log log′ home frames staging x x′ home′ frames′ staging′ a b l l′ f f′ h e e′ =
     stay _ _ w v
     (fall-alike (record { state = allZeroState; log = log′; home = home; frames = frames; staging = staging }) (record { state = allZeroState; log = x′; home = home′; frames = frames′; staging = staging′ })
-    frames staging frames′ staging′ (f .accepted (fits log l) .1 ∙ ap (λ (n : ℕ). replicate n 0) (l ∙ sym l′) ∙ sym (f′ .accepted (fits x l′) .1)) h) e e′
+    frames staging frames′ staging′ (f .accepted (fits log l) ∙ ap (λ (n : ℕ). replicate n 0) (l ∙ sym l′) ∙ sym (f′ .accepted (fits x l′))) h) e e′
   where
     fits : (y : List ℕ) → length y ≡ z .slots * 512 → formatRefusal (length y) ≡ 0
     fits y k =

@@ -15,6 +15,7 @@ use Rattle.area.specs.Part.{part, splice}
 use Rattle.block.specs.Number.{fromBytes}
 use Rattle.block.specs.Slot.{judged, allZero}
 use Rattle.promises.specs.declared.State.{State}
+use Rattle.promises.specs.declared.Dirty.{Dirty}
 use Rattle.promises.specs.declared.Cleaning.{Cleaning}
 use Rattle.promises.specs.declared.Cleaning.the-variants.{Idle, First, Second, Third}
 use Rattle.promises.specs.declared.Answer.the-variants.{Refused, Done}
@@ -29,31 +30,34 @@ use Rattle.promises.specs.Blocks.{clean, stored, slotAt, slotsFrom}
 use Rattle.promises.specs.DirtyPages.{DirtyPage, Found, absent, at, lookUp, shown, apply, applyAll, without, keepFromOf}
 use Rattle.promises.specs.Newest.{newest, allUnused, gathered}
 use Rattle.promises.specs.Walk.{startWith, stands, walkFrom, finding}
-use Rattle.promises.specs.Contents.{dirtyFrom, dirtyOf, grouped, allZeroState}
+use Rattle.promises.specs.Contents.{dirtyFrom, dirtyOf, grouped}
+use Rattle.promises.specs.States.{free, allZeroState, freed, Fills}
 use Rattle.promises.specs.Sums.{firstGroups}
 use Rattle.promises.specs.Sound.{sound, dirtyNumbers}
+use Rattle.promises.specs.Answers.{replied}
 use Rattle.promises.specs.Format.{Formats}
 use Rattle.promises.specs.Open.{openFinding, Opens, OpenStands}
 use Rattle.promises.specs.Begin.{beginRefusal, Begins}
 use Rattle.promises.specs.Describe.{describeRefusal, Describes}
 use Rattle.promises.specs.End.{endRefusal, Ends}
-use Rattle.promises.specs.LogStep.{logRefusal, updateBlock, commitBlock, dirtyAfter, cleaningAfter, UpdateStep, CommitStep, LogSteps}
+use Rattle.promises.specs.LogStep.{logRefusal, updateBlock, commitBlock, dirtyAfter, cleaningAfter, shifted, UpdateStep, CommitStep, LogSteps}
 use Rattle.promises.specs.CleanStep.{NoLater, cleanRefusal, cleanStore, CleanStep, CleanSteps}
 use Rattle.promises.specs.Read.{readRefusal, heldIn, Reads}
 use Rattle.promises.specs.Settled.{settledRefusal, Settles}
 use Rattle.promises.proofs.Promised.{open-accepts, log-updates, log-commits, clean-accepts}
 
--- a state of the life: next, ticket, the dirty page's first group (0: none), queued groups, stored, reserved, described, cleaning
-abbrev state : ℕ → ℕ → ℕ → ℕ → ℕ → ℕ → ℕ → Cleaning → State
-state next ticket first queued count reserved described cleaning = record {
+-- a state of the life: next, ticket, the dirty page's first group (0: none), the first staged update's length and the first group's size
+-- (0: never used), queued groups, stored, reserved, described, cleaning
+abbrev state : ℕ → ℕ → ℕ → ℕ → ℕ → ℕ → ℕ → ℕ → ℕ → Cleaning → State
+state next ticket first long size queued count reserved described cleaning = record {
   pages = 4;
   slots = 8;
   frames = 2;
   next = next;
   ticket = ticket;
   dirty = set (allZeroState .dirty) 0 (record { page = 0; first = first });
-  staged = set (allZeroState .staged) 0 (record { page = 0; offset = 0; length = 1; area = 0 });
-  groups = set (allZeroState .groups) 0 1;
+  staged = set (allZeroState .staged) 0 (record { page = 0; offset = 0; length = long; area = 0 });
+  groups = set (allZeroState .groups) 0 size;
   queued = queued;
   stored = count;
   reserved = reserved;
@@ -62,22 +66,23 @@ state next ticket first queued count reserved described cleaning = record {
 }
 
 abbrev awoken : State
-awoken = state 1 0 0 0 0 0 0 Idle
+awoken = state 1 0 0 0 0 0 0 0 0 Idle
 
 abbrev opened : State
-opened = state 1 0 0 0 0 1 0 Idle
+opened = state 1 0 0 0 0 0 0 1 0 Idle
 
 abbrev described : State
-described = state 1 0 0 0 0 1 1 Idle
+described = state 1 0 0 1 0 0 0 1 1 Idle
 
 abbrev closed : State
-closed = state 1 0 0 1 0 0 0 Idle
+closed = state 1 0 0 1 1 1 0 0 0 Idle
 
 abbrev half : State
-half = state 2 0 0 1 1 0 0 Idle
+half = state 2 0 0 1 1 1 1 0 0 Idle
 
+-- the staged update and the group have left
 abbrev dirty : State
-dirty = state 3 1 1 0 0 0 0 Idle
+dirty = state 3 1 1 0 0 0 0 0 0 Idle
 
 abbrev home : List ℕ
 home = replicate 4096 0
@@ -128,11 +133,27 @@ only p e x q = go (eqb p (e .page)) refl q
     go true o q = let s : e ≡ x = cc in inr (ap (λ (y : DirtyPage). y .first) s, omega (arith, eqb-true p (e .page) o))
     go false o q = let n : _≡_ {A = ℕ} 0 1 = cc in absurd (omega arith)
 
+-- the frames' entries: all free, and page 0 newly in frame 0
+zero-free : (n frame : ℕ) → getD (replicate n free) frame free ≡ free
+zero-free zero frame = refl
+zero-free (suc n) zero = refl
+zero-free (suc n) (suc frame) = zero-free n frame
+
+none-filled : Fills (allZeroState .dirty) (awoken .dirty)
+none-filled = record { count = refl; kept = λ f n. absurd (n (ap (λ (d : Dirty). d .first) (zero-free 32 f))); freeZero = λ f e. zero-free 32 f }
+
+one-filled : Fills (half .dirty) (dirty .dirty)
+one-filled = record { count = refl; kept = λ f n. absurd (n (ap (λ (d : Dirty). d .first) (zero-free 32 f))); freeZero = zeroes }
+  where
+    zeroes : (f : ℕ) → getD (dirty .dirty) f free .first ≡ 0 → getD (dirty .dirty) f free ≡ free
+    zeroes zero e = absurd (omega arith)
+    zeroes (suc f) e = zero-free 31 f
+
 open-step : (openFinding log₀ home 2048 944 ≡ stands 1 (startWith 0))
     × OpenStands 1 (startWith 0) log₀ home frames (record { state = awoken; answer = OpenSettled 0 }) frames
 unfolding openFinding finding gathered allUnused newest slotsFrom slotAt part walkFrom judged allZero keepFromOf sound firstGroups dirtyNumbers dirtyFrom grouped
 open-step =
-    (refl, record { answerIs = refl; framesLong = refl; staysSound = refl; contentsAre = λ x. refl; dirtyAre = λ p. ap (lookUp p) (none-dirty frames) })
+    (refl, record { answerIs = refl; framesLong = refl; fills = none-filled; stateIs = refl; staysSound = refl; contentsAre = λ x. refl; dirtyAre = λ p. ap (lookUp p) (none-dirty frames) })
 
 found-entry : shown (lookUp 0 (entry ∷ [])) (pageAt home 0) ≡ entry .bytes
 unfolding lookUp
@@ -143,33 +164,34 @@ unfolding lookUp part
 found-home = refl
 
 pub format-met : Formats (replicate 4096 255) Done log₀
-format-met = record { refusal = refl; refused = λ n. absurd (n refl); accepted = λ e. (refl, refl) }
+unfolding replied
+format-met = record { answerIs = refl; refused = λ n. absurd (n refl); accepted = λ e. refl }
 
 pub open-met : Opens log₀ home frames staging (record { state = awoken; answer = OpenSettled 0 }) frames
 open-met = open-accepts log₀ home frames staging (record { state = awoken; answer = OpenSettled 0 }) frames 1 (startWith 0) (open-step .0) (open-step .1)
 
 pub begin-met : Begins awoken 1 (record { state = opened; answer = Done })
-unfolding beginRefusal sound firstGroups dirtyNumbers dirtyFrom grouped
-begin-met = record { refusal = refl; refused = λ n. absurd (n refl); answerIs = λ e. refl; leaves = λ e x. record { staysSound = refl; contentsAre = refl; dirtyAre = λ y p. refl } }
+unfolding replied beginRefusal sound firstGroups dirtyNumbers dirtyFrom grouped
+begin-met = record { answerIs = refl; refused = λ n. absurd (n refl); stateIs = λ e. refl; leaves = λ e x. record { staysSound = refl; contentsAre = refl; dirtyAre = λ y p. refl } }
 
 pub describe-met : Describes opened (record { page = 0; offset = 0; bytes = 42 ∷ [] }) staging (record { state = described; answer = Done }) staging′
-unfolding describeRefusal sound firstGroups dirtyNumbers dirtyFrom grouped part splice
+unfolding replied describeRefusal sound firstGroups dirtyNumbers dirtyFrom grouped part splice
 describe-met = record {
-  refusal = refl;
+  answerIs = refl;
   refused = λ n. absurd (n refl);
   accepted = λ e. record {
     area = 0;
     areaBelow = omega arith;
     areaFree = refl;
     stagingIs = refl;
-    answerIs = refl;
+    stateIs = refl;
     leaves = record { staysSound = refl; contentsAre = refl; dirtyAre = λ y p. refl };
   };
 }
 
 pub end-met : Ends described (record { state = closed; answer = Ticket 1 })
-unfolding endRefusal sound firstGroups dirtyNumbers dirtyFrom grouped part
-end-met = record { refusal = refl; refused = λ n. absurd (n refl); answerIs = λ e. refl; leaves = λ e x. record { staysSound = refl; contentsAre = refl; dirtyAre = λ y p. refl } }
+unfolding replied endRefusal sound firstGroups dirtyNumbers dirtyFrom grouped part
+end-met = record { answerIs = refl; refused = λ n. absurd (n refl); stateIs = λ e. refl; leaves = λ e x. record { staysSound = refl; contentsAre = refl; dirtyAre = λ y p. refl } }
 
 -- ---- the two blocks of the group
 
@@ -178,22 +200,24 @@ log₁ = stored 8 log₀ 1 (updateBlock closed group (dirtyOf closed frames))
 
 update-step : UpdateStep closed group log₀ frames staging′ (record { state = half; answer = Stored }) log₁ frames
 unfolding sound firstGroups dirtyNumbers dirtyFrom grouped part
-update-step = record { answerIs = refl; logIs = refl; framesAre = refl; staysSound = refl; contentsAre = refl; dirtyAre = λ p. refl }
+update-step = record { answerIs = refl; logIs = refl; framesAre = refl; stateIs = refl; staysSound = refl; contentsAre = refl; dirtyAre = λ p. refl }
 
 pub update-met : LogSteps closed log₀ home frames staging′ (record { state = half; answer = Stored }) log₁ frames
 unfolding logRefusal sound firstGroups dirtyNumbers grouped part
 update-met =
-    log-updates closed log₀ home frames staging′ (record { state = half; answer = Stored }) log₁ frames refl refl group [] refl (omega arith) update-step
+    log-updates closed log₀ home frames staging′ (record { state = half; answer = Stored }) log₁ frames refl group [] refl (omega arith) update-step
 
 abbrev log₂ : List ℕ → List ℕ
 log₂ log = stored 8 log 2 (commitBlock half group (dirtyAfter half group home frames))
 
 commit-step : (log : List ℕ) → CommitStep half group [] log home frames staging′ (record { state = dirty; answer = LogSettled 1 }) (log₂ log) frames′
-unfolding sound firstGroups dirtyNumbers dirtyFrom grouped part cleaningAfter applyAll apply put
+unfolding sound firstGroups dirtyNumbers dirtyFrom grouped part cleaningAfter shifted applyAll apply put
 commit-step log = record {
   answerIs = refl;
   logIs = refl;
   framesLong = refl;
+  fills = one-filled;
+  stateIs = refl;
   staysSound = refl;
   contentsAre = refl;
   dirtyAre = λ p. ap (lookUp p) (one-dirty ∙ sym (ap (applyAll 1 (pageAt home) group) (none-dirty frames) ∙ applied));
@@ -208,22 +232,22 @@ pub commit-met : (log : List ℕ) → length log ≡ 4096
 unfolding grouped part
 commit-met log e =
     log-commits half log home frames staging′ (record { state = dirty; answer = LogSettled 1 }) (log₂ log) frames′
-    (half-accepted (length log) e) refl group [] refl (omega arith) (commit-step log)
+    (half-accepted (length log) e) group [] refl (omega arith) (commit-step log)
 
 pub settled-met : Settles dirty 1 Yes
-unfolding settledRefusal sound firstGroups dirtyNumbers
-settled-met = record { refusal = refl; answerIs = λ e. refl }
+unfolding replied settledRefusal sound firstGroups dirtyNumbers
+settled-met = record { answerIs = refl }
 
 -- ---- the two halves and the clean block
 
 abbrev cleaned : State
-cleaned = state 4 1 0 0 0 0 0 Idle
+cleaned = state 4 1 0 0 0 0 0 0 0 Idle
 
 abbrev atSecond : State
-atSecond = state 3 1 1 0 0 0 0 (Second 0)
+atSecond = state 3 1 1 0 0 0 0 0 0 (Second 0)
 
 abbrev atThird : State
-atThird = state 3 1 1 0 0 0 0 (Third 0)
+atThird = state 3 1 1 0 0 0 0 0 0 (Third 0)
 
 first-step : (log : List ℕ) → CleanStep dirty log home frames′ (record { state = atSecond; answer = Done }) log (splice home 0 512 (42 ∷ replicate 511 0))
 unfolding cleanStore sound firstGroups dirtyNumbers dirtyFrom grouped part lookUp
@@ -232,10 +256,10 @@ first-step log = record {
   entry = entry;
   found = refl;
   takes = λ p x e. only p entry x (sym (ap (lookUp p) one-dirty) ∙ e);
-  answerIs = refl;
   staysSound = refl;
   logIs = refl;
   homeIs = refl;
+  stateIs = refl;
   contentsAre = λ x. refl;
   dirtyAre = λ p. refl;
 }
@@ -248,10 +272,10 @@ second-step log pages = record {
   entry = entry;
   found = refl;
   takes = refl;
-  answerIs = refl;
   staysSound = refl;
   logIs = refl;
   homeIs = refl;
+  stateIs = refl;
   contentsAre = λ x. refl;
   dirtyAre = λ p. refl;
 }
@@ -260,16 +284,16 @@ abbrev log₃ : List ℕ → List ℕ
 log₃ log = stored 8 log 3 (record { kind = clean 0; keepFrom = 3; ticket = 1 })
 
 clean-step : (log pages : List ℕ) → CleanStep atThird log pages frames′ (record { state = cleaned; answer = Done }) (log₃ log) pages
-unfolding cleanStore sound firstGroups dirtyNumbers dirtyFrom grouped part lookUp without keepFromOf
+unfolding cleanStore sound firstGroups dirtyNumbers dirtyFrom grouped part lookUp without keepFromOf freed
 clean-step log pages = record {
   page = 0;
   entry = entry;
   found = refl;
   takes = refl;
-  answerIs = refl;
   staysSound = refl;
   logIs = refl;
   homeIs = refl;
+  stateIs = refl;
   contentsAre = λ x. refl;
   dirtyAre = λ p. ap (lookUp p) (none-dirty frames′ ∙ sym (ap (without 0) one-dirty ∙ cleansed));
 }
@@ -324,6 +348,6 @@ read-home-met = record {
 }
 
 -- and the refusals on the way: nothing queued, nothing dirty
-nothing-to-do : (logRefusal awoken 4096 4096 2048 944 ≡ 10) × (cleanRefusal awoken 4096 4096 2048 ≡ 10) × (cleanRefusal (state 2 0 0 1 1 0 0 Idle) 4096 4096 2048 ≡ 10)
+nothing-to-do : (logRefusal awoken 4096 4096 2048 944 ≡ 10) × (cleanRefusal awoken 4096 4096 2048 ≡ 10) × (cleanRefusal half 4096 4096 2048 ≡ 10)
 unfolding logRefusal cleanRefusal sound firstGroups dirtyNumbers
 nothing-to-do = (refl, refl, refl)

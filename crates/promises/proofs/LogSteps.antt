@@ -34,7 +34,8 @@ use Rattle.promises.proofs.History.HalfEnd.{begins-le}
 use Rattle.promises.proofs.History.KeepFrom.{keep-applied}
 use Rattle.promises.proofs.History.Whole.{Kept, Runs, Room, kept-update, kept-commit, count-le}
 use Rattle.promises.specs.Book.{Book, counted, committed, stepped, steppedOver}
-use Rattle.promises.specs.Events.{Sizes, World, logStep, Reply, done, settles, accepts, logAnswered, Logging}
+use Rattle.promises.specs.Events.{Sizes, World, logStep, Logging}
+use Rattle.promises.specs.Answers.{Reply, done, settles, accepts, logAnswered}
 use Rattle.promises.specs.Claim.{entered}
 use Rattle.promises.specs.Stored.{newBlock, storedIn}
 use Rattle.promises.proofs.Ranges.{Ranged}
@@ -43,7 +44,8 @@ use Rattle.promises.proofs.Slots.{KindFits, carried-few, slots-store, l
 use Rattle.promises.proofs.SoundFacts.{Facts, facts, length-queue}
 use Rattle.promises.proofs.Kept.{sizesOf, bookOf, liveOf, stageOf, Fit, Fits, FitsAll, Lives, Good, fits-updates, fits-at, apply-all-cong, lives-from, cleaning-after}
 use Rattle.promises.proofs.StoredBlocks.{none-stored, one-stored}
-use Rattle.promises.proofs.Replies.{log-refused-false, no-accept}
+use Rattle.promises.proofs.Replies.{no-accept}
+use Rattle.promises.proofs.Promised.{log-update, log-commit}
 
 -- keep-from of the newest block
 pub keep-facts : (z : full.Sizes) (log : List Slot) (home : ℕ → List ℕ) (b : ledger.Book) (history : List LogBlock) (x : LogBlock) → Kept z log home b (history ++ (x ∷ []))
@@ -260,8 +262,8 @@ module _ (z : Sizes) (range : Ranged z) (w : World) (b : Book) {history : List L
           → (y : List (List Update)) → queueOf s (w .staging) ≡ y → X
       go e so nz ln [] q = absurd (nz (sym ln ∙ ap length q))
       go e so nz ln (x ∷ y) q = by-lt (s .stored) (length x)
-          (λ h. f x y q so h (st .promise .updates e x y q h))
-          (λ h. c x y q so h (st .promise .commits e x y q h))
+          (λ h. f x y q so h (log-update s (w .log) (w .home) (w .frames) (w .staging) (st .result) (st .log′) (st .frames′) e x y q (st .promise) h))
+          (λ h. c x y q so h (log-commit s (w .log) (w .home) (w .frames) (w .staging) (st .result) (st .log′) (st .frames′) e x y q (st .promise) h))
 
   pub do-log : (a : Reply) (w′ : World) → Logging w a w′ → Good z w′ (entered logStep (accepts a) b) (history ++ storedIn z logStep (accepts a) w w′)
   do-log a w′ st = log-cases a w′ (Good z w′ (entered logStep (accepts a) b) (history ++ storedIn z logStep (accepts a) w w′)) st
@@ -274,18 +276,18 @@ module _ (z : Sizes) (range : Ranged z) (w : World) (b : Book) {history : List L
       let ct : s .stored ≡ b .count = r .lives .runs .alive .count in
       rw (st .replyIs, u .answerIs) (subst (λ (y : List (List Update)). Good z w′ (steppedOver b y) (history ++ newBlock z w w′)) (sym (r .queue)) (simp (lt-ltb (length g) (b .count + 1) (omega arith)) (one-stored z range w w′ (committed b g q) history (commitAt g (s .next)) (r .lives .runs .next) (do-commit g q e so h a w′ st u)))))
       (λ n. let k = st .promise .refused n in
-      rw (st .replyIs, st .after, log-refused-false (st .result .answer) _ (st .promise .refusal) n, k .1, k .2)
-      (subst (λ (x : State). Good z (record { state = x; log = w .log; home = w .home; frames = w .frames; staging = w .staging }) b (history ++ [])) (sym (k .0)) (none-stored gd)))
+      rw (st .replyIs, st .after, ap accepts (k .0), k .2, k .3)
+      (subst (λ (x : State). Good z (record { state = x; log = w .log; home = w .home; frames = w .frames; staging = w .staging }) b (history ++ [])) (sym (k .1)) (none-stored gd)))
 
   pub answer-log : (a : Reply) (w′ : World) → Logging w a w′ → accepts a ≡ true → a ≡ cond (ltb (b .m) (stepped b .m)) (settles (stepped b .m)) done
   answer-log a w′ st ok = log-cases a w′ (a ≡ cond (ltb (b .m) (stepped b .m)) (settles (stepped b .m)) done) st
       (λ g q e so h u.
       let r : Ready g q = ready g q e so in
       let ct : s .stored ≡ b .count = r .lives .runs .alive .count in
-      st .replyIs ∙ ap logAnswered (u .answerIs) ∙ rw (r .queue) (simp (le-ltb (length g) (b .count + 1) (omega arith), le-ltb (b .m) (b .m) (omega arith))))
+      st .replyIs ∙ u .answerIs ∙ rw (r .queue) (simp (le-ltb (length g) (b .count + 1) (omega arith), le-ltb (b .m) (b .m) (omega arith))))
       (λ g q e so h u.
       let r : Ready g q = ready g q e so in
       let ct : s .stored ≡ b .count = r .lives .runs .alive .count in
       let tk : s .ticket ≡ b .m = r .lives .runs .alive .ticket in
-      st .replyIs ∙ ap logAnswered (u .answerIs) ∙ rw (r .queue) (simp (lt-ltb (length g) (b .count + 1) (omega arith), lt-ltb (b .m) (b .m + 1) (omega arith)) (ap (λ (n : ℕ). settles (n + 1)) tk)))
-      (λ n. no-accept (sym (log-refused-false (st .result .answer) _ (st .promise .refusal) n) ∙ ap accepts (sym (st .replyIs)) ∙ ok))
+      st .replyIs ∙ u .answerIs ∙ rw (r .queue) (simp (lt-ltb (length g) (b .count + 1) (omega arith), lt-ltb (b .m) (b .m + 1) (omega arith)) (ap (λ (n : ℕ). settles (n + 1)) tk)))
+      (λ n. no-accept (sym (ap accepts (st .promise .refused n .0)) ∙ ap accepts (sym (st .replyIs)) ∙ ok))

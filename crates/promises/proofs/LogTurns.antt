@@ -20,8 +20,10 @@ use Rattle.promises.specs.Contents.{Contents, contentsOf, grouped, group
 use Rattle.promises.specs.Sums.{blockCount, waitingBlocks}
 use Rattle.promises.specs.Sound.{sound, allLegal, stagedOf, ofOldest}
 use Rattle.promises.specs.LogStep.{noUpdate, areasFit, logRefusal, logRefusalOf, updateStored, commitStored}
-use Rattle.promises.specs.Events.{World, Reply, accepts, logAnswered, Logging}
+use Rattle.promises.specs.Events.{World, Logging}
+use Rattle.promises.specs.Answers.{Reply, accepts, logAnswered}
 use Rattle.promises.specs.Waiting.{Fitting}
+use Rattle.promises.proofs.Promised.{log-update, log-commit}
 use Rattle.promises.proofs.Changes.{pick-zero, pick-other}
 use Rattle.promises.proofs.Soundness.{and-both, Sound, sound-of}
 use Rattle.promises.proofs.SoundFacts.{and-left, and-right, length-queue}
@@ -186,12 +188,12 @@ module _ (w : World) (a : Reply) (w′ : World) (st : Logging w a w′) (p : Log
           let all : blocksIn (queueOf s (w .staging)) ≡ length g + 1 + blocksIn q = ap blocksIn e in
           by-lt (s .stored) (length g)
           (λ h.
-          let u = st .promise .updates ok g q e h in
-          turned (updateStored (contentsOf s (w .staging))) (ap (λ (x : Logged). accepts (logAnswered x)) (u .answerIs)) (u .staysSound) (u .contentsAre) refl refl refl refl refl (omega (arith, all))
+          let u = log-update s (w .log) (w .home) (w .frames) (w .staging) (st .result) (st .log′) (st .frames′) ok g q e (st .promise) h in
+          turned (updateStored (contentsOf s (w .staging))) (ap accepts (u .answerIs)) (u .staysSound) (u .contentsAre) refl refl refl refl refl (omega (arith, all))
           (ap length (u .logIs) ∙ length-stored (s .slots) (s .next) (w .log) _ big (p .fits .log) (short-at g (s .stored) h (short-group s (w .staging) g q sounds e)))
           (ap length (u .framesAre)))
           (λ h.
-          let u = st .promise .commits ok g q e h in
-          turned (commitStored (contentsOf s (w .staging)) g q) (ap (λ (x : Logged). accepts (logAnswered x)) (u .answerIs)) (u .staysSound) (u .contentsAre) refl refl refl refl refl (omega (arith, all, half))
+          let u = log-commit s (w .log) (w .home) (w .frames) (w .staging) (st .result) (st .log′) (st .frames′) ok g q e (st .promise) h in
+          turned (commitStored (contentsOf s (w .staging)) g q) (ap accepts (u .answerIs)) (u .staysSound) (u .contentsAre) refl refl refl refl refl (omega (arith, all, half))
           (ap length (u .logIs) ∙ length-stored (s .slots) (s .next) (w .log) _ big (p .fits .log) (omega arith))
           (u .framesLong))

@@ -1,5 +1,6 @@
 -- Open is accepted on what a run left, reports m, and keeps the invariant; a refused one is harmless.
 -- Assumes nothing.
+use denote.Ref.{now}
 use mathlib.Core.Path.{_≡_, refl, sym, ap, _∙_, subst}
 use mathlib.Core.Bool.{true}
 use Prim.Native.Nat.{ℕ, zero, suc, _+_, _*_, _-_, _<_}
@@ -16,6 +17,7 @@ use Rattle.promises.specs.Walk.{Walk, believed, startWith, walkBlock, in
 use Rattle.promises.specs.Contents.{Contents}
 use Rattle.promises.specs.Open.{openFinding, OpenStands}
 use Rattle.promises.specs.Read.{readRefusal, readRefusalOf}
+use Rattle.promises.proofs.Replies.{read-accepted-reply}
 use Rattle.promises.proofs.History.Machine.{lastKeep, walk}
 use Rattle.promises.proofs.History.Views.{noView}
 use Rattle.promises.proofs.History.Stands.{blockStands, allStand}
@@ -29,7 +31,8 @@ use Rattle.promises.proofs.History.HalfEnd.{begins-le}
 use Rattle.promises.proofs.History.Whole.{same-book}
 use Rattle.promises.proofs.History.Reopened.{last-keepFrom, newest-is, gathered-is, okay, fitting, reports, running}
 use Rattle.promises.specs.Book.{Book, gone}
-use Rattle.promises.specs.Events.{Sizes, World, Reply, settles, shows, accepts, openAnswered, Opening, Reading}
+use Rattle.promises.specs.Events.{Sizes, World, Opening, Reading}
+use Rattle.promises.specs.Answers.{Reply, settles, shows, accepts, openAnswered}
 use Rattle.promises.proofs.Soundness.{and-both}
 use Rattle.promises.proofs.Ranges.{Ranged}
 use Rattle.promises.proofs.OpenFindings.{open-finds}
@@ -151,7 +154,7 @@ module _ (z : Sizes) (range : Ranged z) (w : World) (b : Book) {history : List L
 
     -- it is accepted and reports m
     pub opens-right : a ≡ settles (b .m)
-    opens-right = st .replyIs ∙ ap openAnswered (opened .answerIs) ∙ ap settles (reports (sizesOf z) slots₀ (gd .home) ledger₀ history big (gd .kept))
+    opens-right = st .replyIs ∙ opened .answerIs ∙ ap settles (reports (sizesOf z) slots₀ (gd .home) ledger₀ history big (gd .kept))
 
     pub do-open : Good z w′ (gone b) history
     do-open =
@@ -186,4 +189,4 @@ module _ (z : Sizes) (range : Ranged z) (w : World) (b : Book) {history : List L
     reads-right p x w″ h rd =
         let e : readRefusalOf (w′ .state) (w′ .home) (w′ .frames) p ≡ 0 = rw (st .after) (read-number p h) in
         let n : rd .number ≡ 0 = rd .promise .refusal ∙ rw (rd .homeIs, rd .framesAre) e in
-        answer-reading z w′ (gone b) do-open p x w″ rd (ap accepts (rd .replyIs) ∙ simp (eq-eqb _ _ n))
+        answer-reading z w′ (gone b) do-open p x w″ rd (ap accepts (rd .replyIs ∙ read-accepted-reply (rd .number) (now (rd .result)) n))

@@ -28,9 +28,10 @@ use Rattle.promises.proofs.History.Sees.{by-eq}
 use Rattle.promises.proofs.History.Recovered.{alive-end, shown-right}
 use Rattle.promises.proofs.History.Whole.{Runs, same-book, places-append}
 use Rattle.promises.specs.Book.{Book, begun, described, ended, ticketGiven}
-use Rattle.promises.specs.Events.{Sizes, World, withState, begin, describe, ending, Reply, gives, shows, says, accepts, endAnswered, standingAnswered, Beginning, Describing, Ending, Reading, Settling}
+use Rattle.promises.specs.Events.{Sizes, World, withState, begin, describe, ending, Beginning, Describing, Ending, Reading, Settling}
+use Rattle.promises.specs.Answers.{Reply, gives, shows, says, accepts, endAnswered, standingAnswered}
 use Rattle.promises.specs.Claim.{entered}
-use Rattle.promises.proofs.Replies.{refused-false, end-refused-false, standing-refused-false, no-accept, read-accepted-reply, read-refused-reply}
+use Rattle.promises.proofs.Replies.{refused-not, accepted-by, no-accept, read-accepted-reply, read-refused-reply}
 use Rattle.promises.proofs.SoundFacts.{and-left, and-right, Facts, facts, length-list, length-queue}
 use Rattle.promises.proofs.Kept.{sizesOf, bookOf, liveOf, Fit, Lives, Good, fits-legal, fits-updates, fits-more, all-more, lives-from}
 
@@ -46,7 +47,7 @@ module _ (z : Sizes) (w : World) (b : Book) {history : List LogBlock} (g : Good 
       let so : sound s ≡ true = pick-zero (sound s) _ 2 (omega arith) e .0 in
       let l : Lives z w b history (g .home) (g .pages) = g .live so in
       let lv = st .promise .leaves e (w .staging) in
-      rw (st .promise .answerIs e) (record {
+      rw (accepted-by _ _ _ (st .promise .answerIs) e) (record {
         home = g .home;
         pages = g .pages;
         kept = g .kept;
@@ -58,7 +59,7 @@ module _ (z : Sizes) (w : World) (b : Book) {history : List LogBlock} (g : Good 
             (record { pageCount = l .pageCount; slotCount = l .slotCount; frameCount = l .frameCount; next = refl; ticket = refl; queue = refl; stored = refl; cleaning = refl; list = refl })
             x (lv .contentsAre) (lv .dirtyAre (w .frames)) tt (l .queueFits) (l .runs);
       }))
-      (λ n. rw (refused-false (st .result .answer) _ (st .promise .refusal) n) (subst (λ (x : State). Good z (withState w x) b history) (sym (st .promise .refused n)) g)))
+      (λ n. rw (refused-not _ _ _ (st .promise .answerIs) n) (subst (λ (x : State). Good z (withState w x) b history) (sym (st .promise .refused n)) g)))
 
   -- ---- Describe
   fit-of : (P page offset : ℕ) (bytes : List ℕ) → legalPlace P page offset (length bytes) ≡ true → Fit P (record { page = page; offset = offset; bytes = bytes })
@@ -76,7 +77,7 @@ module _ (z : Sizes) (w : World) (b : Book) {history : List LogBlock} (g : Good 
       let ft : Fit (z .pages) u = subst (λ (p : ℕ). Fit p u) (l .pageCount) (fit-of (s .pages) (u .page) (u .offset) (u .bytes) (r .3)) in
       let step = st .promise .accepted e in
       let lv = step .leaves in
-      rw (step .answerIs) (record {
+      rw (accepted-by _ _ _ (st .promise .answerIs) e) (record {
         home = g .home;
         pages = g .pages;
         kept = g .kept;
@@ -89,7 +90,7 @@ module _ (z : Sizes) (w : World) (b : Book) {history : List LogBlock} (g : Good 
             x (lv .contentsAre) (lv .dirtyAre (w .frames)) (fits-more (z .pages) (b .list) u (l .listFits) ft) (l .queueFits) (l .runs);
       }))
       (λ n. let k = st .promise .refused n in
-      rw (refused-false (st .result .answer) _ (st .promise .refusal) n, k .1)
+      rw (refused-not _ _ _ (st .promise .answerIs) n, k .1)
       (subst (λ (x : State). Good z (withState w x) b history) (sym (k .0)) g)))
 
   -- ---- End
@@ -109,7 +110,7 @@ module _ (z : Sizes) (w : World) (b : Book) {history : List LogBlock} (g : Good 
       let al = alive-end history (g .home) k (bookOf (g .pages) b) (b .list) (omega arith, fits-legal (z .pages) (b .list) (l .listFits)) (l .runs .alive) in
       let r : Runs (sizesOf z) (g .home) (bookOf (g .pages) (ended b)) history (s .next) (enqueue k (b .list)) =
       record { next = l .runs .next; alive = al; pages = l .runs .pages; places = places-append (z .pages) (queueOf s (w .staging)) (b .list) (l .runs .places) (fits-updates (z .pages) (b .list) (l .listFits)) } in
-      rw (st .promise .answerIs e) (record {
+      rw (accepted-by _ _ _ (st .promise .answerIs) e) (record {
         home = g .home;
         pages = g .pages;
         kept = same-book refl refl (g .kept);
@@ -131,7 +132,7 @@ module _ (z : Sizes) (w : World) (b : Book) {history : List LogBlock} (g : Good 
             })
             x (lv .contentsAre) (lv .dirtyAre (w .frames)) tt (all-more (z .pages) (b .queue) (b .list) (l .queueFits) (l .listFits) (omega arith)) r;
       }))
-      (λ n. rw (end-refused-false (st .result .answer) _ (st .promise .refusal) n) (subst (λ (x : State). Good z (withState w x) b history) (sym (st .promise .refused n)) g)))
+      (λ n. rw (refused-not _ _ _ (st .promise .answerIs) n) (subst (λ (x : State). Good z (withState w x) b history) (sym (st .promise .refused n)) g)))
 
   pub answer-ending : (a : Reply) (w′ : World) → Ending w a w′ → accepts a ≡ true → a ≡ gives (ticketGiven b)
   unfolding endRefusal
@@ -142,22 +143,18 @@ module _ (z : Sizes) (w : World) (b : Book) {history : List LogBlock} (g : Good 
       let f : Facts s (w .frames) = facts s (w .frames) (c2 .0) in
       let q : length (b .queue) ≡ s .queued = ap length (sym (l .runs .alive .queue)) ∙ length-queue s (w .staging) (f .queued) in
       let t : s .ticket ≡ b .m = l .runs .alive .ticket in
-      st .replyIs ∙ ap endAnswered (st .promise .answerIs e) ∙ ap gives (omega (arith, length-append (b .queue) (b .list ∷ []))))
-      (λ n. no-accept (sym (end-refused-false (st .result .answer) _ (st .promise .refusal) n) ∙ ap accepts (sym (st .replyIs)) ∙ ok))
+      st .replyIs ∙ accepted-by _ _ _ (st .promise .answerIs) e ∙ ap gives (omega (arith, length-append (b .queue) (b .list ∷ []))))
+      (λ n. no-accept (sym (refused-not _ _ _ (st .promise .answerIs) n) ∙ ap accepts (sym (st .replyIs)) ∙ ok))
 
   -- ---- Settled
-  said : (c : Bool) → standingAnswered (cond c Yes No) ≡ says c
-  said true = refl
-  said false = refl
-
   pub answer-settling : (t : ℕ) (a : Reply) (w′ : World) → Settling w t a w′ → accepts a ≡ true → a ≡ says (leb t (b .m))
   unfolding settledRefusal
   answer-settling t a w′ st ok = by-eq (settledRefusal s t) 0
       (λ e.
       let c2 = pick-zero (sound s) _ 2 (omega arith) e in
       let l : Lives z w b history (g .home) (g .pages) = g .live (c2 .0) in
-      st .replyIs ∙ ap standingAnswered (st .promise .answerIs e) ∙ said (leb t (s .ticket)) ∙ ap (λ (n : ℕ). says (leb t n)) (l .runs .alive .ticket))
-      (λ n. no-accept (sym (standing-refused-false (st .result) _ (st .promise .refusal) n) ∙ ap accepts (sym (st .replyIs)) ∙ ok))
+      st .replyIs ∙ accepted-by _ _ _ (st .promise .answerIs) e ∙ ap (λ (n : ℕ). says (leb t n)) (l .runs .alive .ticket))
+      (λ n. no-accept (sym (refused-not _ _ _ (st .promise .answerIs) n) ∙ ap accepts (sym (st .replyIs)) ∙ ok))
 
   -- ---- Read
   pub answer-reading : (p : ℕ) (a : Reply) (w′ : World) → Reading w p a w′ → accepts a ≡ true → a ≡ shows (b .pages p)

@@ -11,8 +11,9 @@ use Rattle.promises.specs.Describe.{describeRefusal}
 use Rattle.promises.specs.End.{endRefusal}
 use Rattle.promises.specs.LogStep.{logRefusalOf}
 use Rattle.promises.specs.CleanStep.{cleanRefusalOf}
-use Rattle.promises.specs.Events.{World, withState, Reply, refuses, Beginning, Describing, Ending, Logging, Cleaning}
-use Rattle.promises.proofs.Replies.{refused-reply, end-refused-reply, log-refused-reply}
+use Rattle.promises.specs.Events.{World, withState, Beginning, Describing, Ending, Logging, Cleaning}
+use Rattle.promises.specs.Answers.{Reply, refuses}
+use Rattle.promises.proofs.Replies.{refused-by}
 
 abbrev pub Refuses : ℕ → World → Reply → World → Type 0
 Refuses number w a w′ = (a ≡ refuses number) × (w′ ≡ w)
@@ -20,7 +21,7 @@ Refuses number w a w′ = (a ≡ refuses number) × (w′ ≡ w)
 module _ (w w′ : World) (a : Reply) where
   pub begin-refused : (u : ℕ) → Beginning w u a w′ → (beginRefusal (w .state) u ≡ 0 → ⊥) → Refuses (beginRefusal (w .state) u) w a w′
   begin-refused u st m = (
-    st .replyIs ∙ refused-reply (st .result .answer) _ (st .promise .refusal) m,
+    st .replyIs ∙ refused-by _ _ _ (st .promise .answerIs) m,
     st .after ∙ ap (withState w) (st .promise .refused m),
   )
 
@@ -28,14 +29,14 @@ module _ (w w′ : World) (a : Reply) where
       → Refuses (describeRefusal (w .state) (length (w .staging)) (u .page) (u .offset) (length (u .bytes))) w a w′
   describe-refused u st m =
       let k = st .promise .refused m in (
-        st .replyIs ∙ refused-reply (st .result .answer) _ (st .promise .refusal) m,
+        st .replyIs ∙ refused-by _ _ _ (st .promise .answerIs) m,
         st .after ∙ ap (λ (x : State). record { state = x; log = w .log; home = w .home; frames = w .frames; staging = st .staging′ }) (k .0)
             ∙ ap (λ (x : List ℕ). record { state = w .state; log = w .log; home = w .home; frames = w .frames; staging = x }) (k .1),
       )
 
   pub end-refused : Ending w a w′ → (endRefusal (w .state) ≡ 0 → ⊥) → Refuses (endRefusal (w .state)) w a w′
   end-refused st m = (
-    st .replyIs ∙ end-refused-reply (st .result .answer) _ (st .promise .refusal) m,
+    st .replyIs ∙ refused-by _ _ _ (st .promise .answerIs) m,
     st .after ∙ ap (withState w) (st .promise .refused m),
   )
 
@@ -43,17 +44,17 @@ module _ (w w′ : World) (a : Reply) where
       → Refuses (logRefusalOf (w .state) (w .log) (w .home) (w .frames) (w .staging)) w a w′
   log-refused st m =
       let k = st .promise .refused m in (
-        st .replyIs ∙ log-refused-reply (st .result .answer) _ (st .promise .refusal) m,
-        st .after ∙ ap (λ (x : State). record { state = x; log = st .log′; home = w .home; frames = st .frames′; staging = w .staging }) (k .0)
-            ∙ ap (λ (x : List ℕ). record { state = w .state; log = x; home = w .home; frames = st .frames′; staging = w .staging }) (k .1)
-            ∙ ap (λ (x : List ℕ). record { state = w .state; log = w .log; home = w .home; frames = x; staging = w .staging }) (k .2),
+        st .replyIs ∙ k .0,
+        st .after ∙ ap (λ (x : State). record { state = x; log = st .log′; home = w .home; frames = st .frames′; staging = w .staging }) (k .1)
+            ∙ ap (λ (x : List ℕ). record { state = w .state; log = x; home = w .home; frames = st .frames′; staging = w .staging }) (k .2)
+            ∙ ap (λ (x : List ℕ). record { state = w .state; log = w .log; home = w .home; frames = x; staging = w .staging }) (k .3),
       )
 
   pub clean-refused : Cleaning w a w′ → (cleanRefusalOf (w .state) (w .log) (w .home) (w .frames) ≡ 0 → ⊥)
       → Refuses (cleanRefusalOf (w .state) (w .log) (w .home) (w .frames)) w a w′
   clean-refused st m =
       let k = st .promise .refused m in (
-        st .replyIs ∙ refused-reply (st .result .answer) _ (st .promise .refusal) m,
+        st .replyIs ∙ refused-by _ _ _ (st .promise .answerIs) m,
         st .after ∙ ap (λ (x : State). record { state = x; log = st .log′; home = st .home′; frames = w .frames; staging = w .staging }) (k .0)
             ∙ ap (λ (x : List ℕ). record { state = w .state; log = x; home = st .home′; frames = w .frames; staging = w .staging }) (k .1)
             ∙ ap (λ (x : List ℕ). record { state = w .state; log = w .log; home = x; frames = w .frames; staging = w .staging }) (k .2),

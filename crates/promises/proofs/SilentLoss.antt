@@ -15,9 +15,10 @@ use Rattle.promises.specs.Areas.{pageAt, slotsIn, pagesIn, framesIn, wit
 use Rattle.promises.specs.Blocks.{Kind, update, commit, clean, LogBlock, Slot, unused, damaged, slotIn, slotsOf}
 use Rattle.promises.specs.Newest.{newest, keepOf, Gathered, missing, blocks, gathered}
 use Rattle.promises.specs.Walk.{stops, walkFrom, walkGathered, startWith, believed, finding}
-use Rattle.promises.specs.Open.{openFinding, opened}
+use Rattle.promises.specs.Open.{openFinding, opened, openedState}
 use Rattle.promises.specs.Book.{Book}
-use Rattle.promises.specs.Events.{Sizes, World, opening, reading, Reply, refuses, settles, shows, accepts, Opening, Reading}
+use Rattle.promises.specs.Events.{Sizes, World, opening, reading, Opening, Reading}
+use Rattle.promises.specs.Answers.{Reply, refuses, settles, shows, accepts}
 use Rattle.promises.specs.Claim.{Steps, Run}
 use Rattle.promises.specs.Stored.{storedBy}
 use Rattle.promises.specs.SilentLoss.{withLog, NoSilentLoss, SettledStored, WentBad, NoOtherPages}
@@ -27,7 +28,7 @@ use Rattle.promises.proofs.History.DamagedSlots as slots
 use Rattle.promises.proofs.History.DamagedSlots.{found-bad, newest-bad}
 use Rattle.promises.proofs.Ranges.{Ranged, ranged}
 use Rattle.promises.proofs.Slots.{get-slot, size-slots, no-slot, same-slot, slots-with}
-use Rattle.promises.proofs.Replies.{no-accept, open-refused-reply}
+use Rattle.promises.proofs.Replies.{no-accept}
 use Rattle.promises.proofs.OpenFindings.{open-finds}
 use Rattle.promises.proofs.Openings.{opens-right, reads-right}
 use Rattle.promises.proofs.Kept.{Good}
@@ -89,7 +90,7 @@ module _ (z : Sizes) (range : Ranged z) (w : World) (b : Book) {history : List L
     opens-refused : Stops → a ≡ refuses 7
     opens-refused r =
         let o = st .promise .refused 7 (r .0) (open-finds z range log′ (w .home) (length frames) (length staging) long′ (g .homeLong) ef es ∙ r .1) in
-        st .replyIs ∙ open-refused-reply (st .result .answer) 7 (o .refusalIs) (λ e. omega arith)
+        st .replyIs ∙ o .answerIs
 
     -- an opening that finds the same is one of the log as it was
     as-before : finding (z .slots) (z .pages) (z .frames) log′ (w .home) ≡ finding (z .slots) (z .pages) (z .frames) (w .log) (w .home)
@@ -108,6 +109,9 @@ module _ (z : Sizes) (range : Ranged z) (w : World) (b : Book) {history : List L
                 record {
                   answerIs = o .answerIs;
                   framesLong = o .framesLong;
+                  fills = o .fills;
+                  stateIs = o .stateIs
+                      ∙ ap (λ (c : ℕ). openedState (pagesIn (length (w .home))) (slotsIn c) (framesIn (length frames)) n (v .ticket) (st .result .state .dirty)) (long′ ∙ sym (g .logLong));
                   staysSound = o .staysSound;
                   contentsAre = λ x. o .contentsAre x ∙ ap (λ (c : ℕ). opened (pagesIn (length (w .home))) (slotsIn c) (framesIn (length frames)) n (v .ticket)) (long′ ∙ sym (g .logLong));
                   dirtyAre = o .dirtyAre;

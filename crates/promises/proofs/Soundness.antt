@@ -8,7 +8,8 @@ use lib.ListN.{length, take, drop}
 use lib.Dec.{eqb, leb, ltb}
 use borrow.Author.Tests.{leb-true, ltb-true, eqb-true, le-leb, lt-ltb, eq-eqb}
 use Rattle.promises.specs.declared.State.{State}
-use Rattle.promises.specs.Contents.{groupsOf, total, allZeroState}
+use Rattle.promises.specs.Contents.{groupsOf, total}
+use Rattle.promises.specs.States.{allZeroState}
 use Rattle.promises.specs.Sums.{firstGroups, reservedUpdates, owedBlocks, slotsTaken, framesTaken, sequencesTaken}
 use Rattle.promises.specs.Sound.{
   dirtyNumbers,

@@ -13,6 +13,7 @@ use Rattle.block.proofs.Tests.{by-cases}
 use Rattle.promises.specs.declared.Dirty.{Dirty}
 use Rattle.promises.specs.Areas.{pageAt}
 use Rattle.promises.specs.Updates.{Update, put}
+use Rattle.promises.specs.States.{free}
 use Rattle.promises.specs.DirtyPages.{DirtyPage, Found, absent, at, lookUp, apply, without}
 use Rattle.promises.specs.Contents.{unless, dirtyFrom}
 use Rattle.promises.specs.Sound.{member, dirtyNumbers}
@@ -29,9 +30,6 @@ pub found-absent : {X : Type 0} (e : DirtyPage) → at e ≡ absent → X
 found-absent e h = let z : _≡_ {A = ℕ} 0 1 = cc in absurd (omega arith)
 
 -- ---- an entry and its frame
-
-abbrev pub free : Dirty
-free = record { page = 0; first = 0 }
 
 -- this entry, looked up as page p, before the others
 abbrev pub entryOr : ℕ → Dirty → List ℕ → Found → Found

@@ -18,12 +18,13 @@ use Rattle.promises.specs.Sums.{firstGroups, smallest, blockCount, dirty
 use Rattle.promises.specs.Sound.{sound, ofOldest}
 use Rattle.promises.specs.Begin.{beginInRange, beginRefusal}
 use Rattle.promises.specs.CleanStep.{thirdRefusal}
-use Rattle.promises.specs.Events.{World, begin, logStep, cleanStep, Reply, refuses, accepts, answered}
+use Rattle.promises.specs.Events.{World, begin, logStep, cleanStep}
+use Rattle.promises.specs.Answers.{Reply, refuses, accepts, answered, numberIn}
 use Rattle.promises.specs.Claim.{Steps}
 use Rattle.promises.specs.Waiting.{Fitting, Calls, none, more, AllAccepted, Served, Serves, Waits, WaitBound}
 use Rattle.promises.proofs.Changes.{held-is}
 use Rattle.promises.proofs.Soundness.{and-both, Sound, sound-of}
-use Rattle.promises.proofs.Replies.{refused-number}
+use Rattle.promises.proofs.Replies.{accepted-by, number-by}
 use Rattle.promises.proofs.RefusedCalls.{begin-refused}
 use Rattle.promises.proofs.LogTurns.{log-turn}
 use Rattle.promises.proofs.CleanTurns.{CleanPassed, storesMade, storesLeft, clean-turn}
@@ -217,7 +218,7 @@ module _ (by : Steps) (r : Refines by) (N F : ℕ) where
     noneDirty = d;
     begins = λ a w′ st.
         let b = r .steps (begin u) w a w′ st in
-        b .replyIs ∙ ap answered (b .promise .answerIs (begin-passes N F c n u w below k p d));
+        b .replyIs ∙ accepted-by _ _ _ (b .promise .answerIs) (begin-passes N F c n u w below k p d);
   }
 
   -- ---- chains of them
@@ -252,7 +253,7 @@ module _ (by : Steps) (r : Refines by) (w : World) (u : ℕ) (fit : Fitting w) (
   waits : (n m : ℕ) (logged : Calls by logStep n full w₁) → waitingBlocks s ≡ n → 3 * s .frames ≤ m → s .next + 1073 ≤ 2 ^ 48 → Waits u m logged
   waits n m logged e most room =
       let b = r .steps (begin u) w (refuses 5) full st in
-      let five : beginRefusal s u ≡ 5 = sym (b .promise .refusal) ∙ refused-number (b .result .answer) 5 (sym (b .replyIs)) in
+      let five : beginRefusal s u ≡ 5 = sym (number-by _ _ _ (b .promise .answerIs) refl) ∙ ap numberIn (sym (b .replyIs)) in
       let same : full ≡ w = begin-refused w full (refuses 5) u b (λ z. absurd (omega (arith, five, z))) .1 in
       let f : Full s u = is-full s u five in
       let l = logs-all by r (s .slots) (s .frames) (s .next + n) n full w₁ logged

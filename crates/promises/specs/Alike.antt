@@ -12,7 +12,8 @@ use Rattle.promises.specs.DirtyPages.{lookUp}
 use Rattle.promises.specs.Contents.{contentsOf, dirtyOf}
 use Rattle.promises.specs.Sound.{sound}
 use Rattle.promises.specs.Book.{Book}
-use Rattle.promises.specs.Events.{Sizes, World, Call, opening, begin, describe, ending, logStep, cleanStep, reading, settling, Reply, Lent}
+use Rattle.promises.specs.Events.{Sizes, World, Call, opening, begin, describe, ending, logStep, cleanStep, reading, settling, Lent}
+use Rattle.promises.specs.Answers.{Reply}
 use Rattle.promises.specs.Claim.{Steps, Run, formatted, called, unfit, cut, cutUnfit, foundBy, InRange}
 
 -- ---- two worlds alike: the same log and home, and states that say the same, each read with its own staging and its own frames

@@ -1,6 +1,9 @@
--- The paper's number of each refusal, and of each answer: 0 where the call is accepted.
+-- What a caller is told: the paper's number and values of each answer. Every promise gives the whole answer by these definitions.
 -- Assumes nothing.
 use Prim.Native.Nat.{ℕ}
+use mathlib.Core.Bool.{Bool, true, false, cond}
+use mathlib.Core.List.{List}
+use lib.Dec.{eqb}
 use Rattle.promises.specs.declared.Refusal.{Refusal}
 use Rattle.promises.specs.declared.Refusal.the-variants.{
   WrongLength,
@@ -39,33 +42,69 @@ numberOf TooFewFrames = 9
 numberOf NothingToDo = 10
 numberOf HeldBack = 11
 
+-- ---- the replies: End gives a ticket, Log step and Open report one as settled, Read shows bytes, Settled says yes or no
+pub data Reply : Type 0 where
+  refuses : ℕ → Reply
+  done : Reply
+  gives : ℕ → Reply
+  settles : ℕ → Reply
+  shows : List ℕ → Reply
+  says : Bool → Reply
+
+abbrev pub accepts : Reply → Bool
+accepts (refuses refusal) = false
+accepts done = true
+accepts (gives ticket) = true
+accepts (settles ticket) = true
+accepts (shows bytes) = true
+accepts (says answer) = true
+
+-- the refusal's number, 0 where the call is accepted
+abbrev pub numberIn : Reply → ℕ
+numberIn (refuses refusal) = refusal
+numberIn done = 0
+numberIn (gives ticket) = 0
+numberIn (settles ticket) = 0
+numberIn (shows bytes) = 0
+numberIn (says answer) = 0
+
+-- the whole answer of a call: its refusal, or this reply where the number is 0
+unfoldable pub replied : ℕ → Reply → Reply
+replied refusal reply = cond (eqb refusal 0) reply (refuses refusal)
+
+-- ---- each answer's reply
+
 -- Format, Begin, Describe and Clean step
-abbrev pub refusalIn : Answer → ℕ
-refusalIn (Refused refusal) = numberOf refusal
-refusalIn Done = 0
+abbrev pub answered : Answer → Reply
+answered (Refused refusal) = refuses (numberOf refusal)
+answered Done = done
 
 -- End
-abbrev pub endRefusalIn : Ended → ℕ
-endRefusalIn (EndRefused refusal) = numberOf refusal
-endRefusalIn (Ticket ticket) = 0
+abbrev pub endAnswered : Ended → Reply
+endAnswered (EndRefused refusal) = refuses (numberOf refusal)
+endAnswered (Ticket ticket) = gives ticket
 
 -- Log step
-abbrev pub logRefusalIn : Logged → ℕ
-logRefusalIn (LogRefused refusal) = numberOf refusal
-logRefusalIn Stored = 0
-logRefusalIn (LogSettled ticket) = 0
+abbrev pub logAnswered : Logged → Reply
+logAnswered (LogRefused refusal) = refuses (numberOf refusal)
+logAnswered Stored = done
+logAnswered (LogSettled ticket) = settles ticket
 
 -- Open, and the place of its refusal
-abbrev pub openRefusalIn : Opened → ℕ
-openRefusalIn (OpenRefused refusal place) = numberOf refusal
-openRefusalIn (OpenSettled ticket) = 0
+abbrev pub openAnswered : Opened → Reply
+openAnswered (OpenRefused refusal place) = refuses (numberOf refusal)
+openAnswered (OpenSettled ticket) = settles ticket
 
 abbrev pub placeIn : Opened → ℕ
 placeIn (OpenRefused refusal place) = place
 placeIn (OpenSettled ticket) = 0
 
+-- Read
+abbrev pub readAnswered : ℕ → List ℕ → Reply
+readAnswered refusal bytes = replied refusal (shows bytes)
+
 -- Settled
-abbrev pub standingRefusalIn : Standing → ℕ
-standingRefusalIn (StandingRefused refusal) = numberOf refusal
-standingRefusalIn Yes = 0
-standingRefusalIn No = 0
+abbrev pub standingAnswered : Standing → Reply
+standingAnswered (StandingRefused refusal) = refuses (numberOf refusal)
+standingAnswered Yes = says true
+standingAnswered No = says false

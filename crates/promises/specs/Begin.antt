@@ -7,12 +7,12 @@ use mathlib.Core.List.{List, []}
 use lib.Dec.{eqb, leb}
 use Rattle.block.specs.Sizes.{sequenceEnd, groupMost}
 use Rattle.promises.specs.declared.State.{State}
-use Rattle.promises.specs.declared.Answer.the-variants.{Done}
 use Rattle.promises.specs.declared.Outcome.{Outcome}
-use Rattle.promises.specs.Contents.{Contents, contentsOf}
+use Rattle.promises.specs.Contents.{Contents, contentsOf, withOpen}
+use Rattle.promises.specs.States.{setOpen}
 use Rattle.promises.specs.Sums.{slotsTaken, framesTaken, waitingBlocks}
 use Rattle.promises.specs.Sound.{sound}
-use Rattle.promises.specs.Answers.{refusalIn}
+use Rattle.promises.specs.Answers.{done, replied, answered}
 use Rattle.promises.specs.Leaves.{Leaves}
 
 -- not 3: u is not 0, not above 16, not above F, and 2u + 1 is not above N
@@ -33,21 +33,13 @@ beginRefusal state u =
 
 -- an open transaction that reserves u and has described nothing
 abbrev pub begun : Contents → ℕ → Contents
-begun contents u = record {
-  pages = contents .pages;
-  slots = contents .slots;
-  frames = contents .frames;
-  next = contents .next;
-  ticket = contents .ticket;
-  queue = contents .queue;
-  stored = contents .stored;
-  reserved = u;
-  list = [];
-  cleaning = contents .cleaning;
-}
+begun contents u = withOpen contents u []
+
+abbrev pub begunState : State → ℕ → State
+begunState state u = setOpen state u 0
 
 pub record Begins (state : State) (u : ℕ) (result : Outcome) : Type 0 where
-  pub refusal : refusalIn (result .answer) ≡ beginRefusal state u
+  pub answerIs : answered (result .answer) ≡ replied (beginRefusal state u) done
   pub refused : (beginRefusal state u ≡ 0 → ⊥) → result .state ≡ state
-  pub answerIs : beginRefusal state u ≡ 0 → result .answer ≡ Done
+  pub stateIs : beginRefusal state u ≡ 0 → result .state ≡ begunState state u
   pub leaves : beginRefusal state u ≡ 0 → (staging : List ℕ) → Leaves state (result .state) staging (begun (contentsOf state staging) u)

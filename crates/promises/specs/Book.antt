@@ -51,7 +51,7 @@ committed book group rest = record {
 
 -- once the count exceeds the number of updates in the queue's oldest list
 abbrev pub steppedOver : Book → List (List Update) → Book
-steppedOver book [] = book
+steppedOver book [] = counted book
 steppedOver book (group ∷ rest) = cond (ltb (length group) (book .count + 1)) (committed book group rest) (counted book)
 
 abbrev pub stepped : Book → Book

@@ -10,7 +10,8 @@ use lib.Dec.{leb, ltb}
 use Rattle.promises.specs.declared.Answer.{Answer}
 use Rattle.promises.specs.Areas.{pageAt, logLength, homeLength, slotsInRange, pagesInRange, framesInRange}
 use Rattle.promises.specs.Updates.{Update, redo, ofPage}
-use Rattle.promises.specs.Contents.{allZeroState}
+use Rattle.promises.specs.States.{allZeroState}
+use Rattle.promises.specs.Answers.{Reply, refuses, done, gives, settles, shows, says, accepts}
 use Rattle.promises.specs.Format.{Formats}
 use Rattle.promises.specs.Book.{Book, blank, begun, described, ended, ticketGiven, stepped, gone}
 use Rattle.promises.specs.Events.{
@@ -26,41 +27,40 @@ use Rattle.promises.specs.Events.{
   cleanStep,
   reading,
   settling,
-  Reply,
-  refuses,
-  done,
-  gives,
-  settles,
-  shows,
-  says,
-  accepts,
   Step,
   Lent,
   leftBy,
   fallen,
 }
 
--- what the book makes of a call that is accepted, or refused
-abbrev pub entered : Call → Bool → Book → Book
-entered (opening frames staging) accepted book = gone book
-entered (begin u) accepted book = cond accepted (begun book) book
-entered (describe update) accepted book = cond accepted (described update book) book
-entered ending accepted book = cond accepted (ended book) book
-entered logStep accepted book = cond accepted (stepped book) book
-entered cleanStep accepted book = book
-entered (reading page) accepted book = book
-entered (settling ticket) accepted book = book
+-- what an accepted call makes of the book
+abbrev pub bookedBy : Call → Book → Book
+bookedBy (opening frames staging) book = gone book
+bookedBy (begin u) book = begun book
+bookedBy (describe update) book = described update book
+bookedBy ending book = ended book
+bookedBy logStep book = stepped book
+bookedBy cleanStep book = book
+bookedBy (reading page) book = book
+bookedBy (settling ticket) book = book
 
--- and of a cut: a Log step cut after its store is done first
+abbrev pub isOpen : Call → Bool
+isOpen (opening frames staging) = true
+isOpen (begin u) = false
+isOpen (describe update) = false
+isOpen ending = false
+isOpen logStep = false
+isOpen cleanStep = false
+isOpen (reading page) = false
+isOpen (settling ticket) = false
+
+-- a refused call makes nothing of it, but for Open, even refused
+abbrev pub entered : Call → Bool → Book → Book
+entered call accepted book = cond accepted (bookedBy call book) (cond (isOpen call) (gone book) book)
+
+-- and a cut: a call whose block got stored is done first
 abbrev pub cutAt : Call → Bool → Book → Book
-cutAt (opening frames staging) stored book = gone book
-cutAt (begin u) stored book = gone book
-cutAt (describe update) stored book = gone book
-cutAt ending stored book = gone book
-cutAt logStep stored book = gone (cond stored (stepped book) book)
-cutAt cleanStep stored book = gone book
-cutAt (reading page) stored book = gone book
-cutAt (settling ticket) stored book = gone book
+cutAt call stored book = gone (cond stored (bookedBy call book) book)
 
 -- a call's block got stored at a cut: the call would have been accepted
 abbrev pub both : Bool → Bool → Bool
@@ -139,15 +139,19 @@ abbrev pub leaving : ℕ → List (List Update) → List (List Update)
 leaving count [] = []
 leaving count (group ∷ rest) = cond (ltb (length group) (count + 1)) (group ∷ []) []
 
+abbrev pub leavingBy : Call → Book → List (List Update)
+leavingBy (opening frames staging) book = []
+leavingBy (begin u) book = []
+leavingBy (describe update) book = []
+leavingBy ending book = []
+leavingBy logStep book = leaving (book .count) (book .queue)
+leavingBy cleanStep book = []
+leavingBy (reading page) book = []
+leavingBy (settling ticket) book = []
+
+-- a call that is refused, or cut before its block got stored, commits nothing
 abbrev pub commitsOf : Call → Bool → Book → List (List Update)
-commitsOf (opening frames staging) stored book = []
-commitsOf (begin u) stored book = []
-commitsOf (describe update) stored book = []
-commitsOf ending stored book = []
-commitsOf logStep stored book = cond stored (leaving (book .count) (book .queue)) []
-commitsOf cleanStep stored book = []
-commitsOf (reading page) stored book = []
-commitsOf (settling ticket) stored book = []
+commitsOf call stored book = cond stored (leavingBy call book) []
 
 -- the transactions that a run committed, in ticket order
 unfoldable pub committedBy : {by : Steps} {sizes : Sizes} {world : World} {book : Book} → Run by sizes world book → List (List Update)

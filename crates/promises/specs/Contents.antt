@@ -1,15 +1,14 @@
--- What a state says, with the bytes in frames and staging: dirty pages, queue and open transaction. And the all-zero state.
+-- What a state says, with the bytes in frames and staging: dirty pages, queue and open transaction.
 -- Assumes nothing.
 use Prim.Native.Nat.{ℕ, zero, suc, _+_}
 use mathlib.Core.Bool.{Bool, true, false}
 use mathlib.Core.List.{List, [], _∷_, map}
-use lib.ListN.{take, drop, replicate}
+use lib.ListN.{take, drop}
 use lib.Dec.{eqb}
 use Rattle.promises.specs.declared.State.{State}
 use Rattle.promises.specs.declared.Dirty.{Dirty}
 use Rattle.promises.specs.declared.Staged.{Staged}
 use Rattle.promises.specs.declared.Cleaning.{Cleaning}
-use Rattle.promises.specs.declared.Cleaning.the-variants.{Idle}
 use Rattle.promises.specs.Areas.{pageAt, stagedBytes}
 use Rattle.promises.specs.Updates.{Update}
 use Rattle.promises.specs.DirtyPages.{DirtyPage}
@@ -79,20 +78,33 @@ contentsOf state staging = record {
   cleaning = state .cleaning;
 }
 
--- the all-zero state
-abbrev pub allZeroState : State
-allZeroState = record {
-  pages = 0;
-  slots = 0;
-  frames = 0;
-  next = 0;
-  ticket = 0;
-  dirty = replicate 32 (record { page = 0; first = 0 });
-  staged = replicate 32 (record { page = 0; offset = 0; length = 0; area = 0 });
-  groups = replicate 32 0;
-  queued = 0;
-  stored = 0;
-  reserved = 0;
-  described = 0;
-  cleaning = Idle;
+-- contents with these values, of the same sizes: the setters below are made of it, and say what a call changes
+abbrev pub contentsWith : Contents → ℕ → ℕ → List (List Update) → ℕ → ℕ → List Update → Cleaning → Contents
+contentsWith contents next ticket queue stored reserved list cleaning = record {
+  pages = contents .pages;
+  slots = contents .slots;
+  frames = contents .frames;
+  next = next;
+  ticket = ticket;
+  queue = queue;
+  stored = stored;
+  reserved = reserved;
+  list = list;
+  cleaning = cleaning;
 }
+
+-- with one block more in the log, and this ticket
+abbrev pub withBlock : Contents → ℕ → Contents
+withBlock c ticket = contentsWith c (c .next + 1) ticket (c .queue) (c .stored) (c .reserved) (c .list) (c .cleaning)
+
+-- with this queue, and so many updates of its oldest group stored
+abbrev pub withQueue : Contents → List (List Update) → ℕ → Contents
+withQueue c queue stored = contentsWith c (c .next) (c .ticket) queue stored (c .reserved) (c .list) (c .cleaning)
+
+-- with an open transaction that reserved so many updates and has this list; 0 and none where nothing is open
+abbrev pub withOpen : Contents → ℕ → List Update → Contents
+withOpen c reserved list = contentsWith c (c .next) (c .ticket) (c .queue) (c .stored) reserved list (c .cleaning)
+
+-- with this cleaning
+abbrev pub withCleaning : Contents → Cleaning → Contents
+withCleaning c cleaning = contentsWith c (c .next) (c .ticket) (c .queue) (c .stored) (c .reserved) (c .list) cleaning

@@ -9,29 +9,10 @@ use lib.Dec.{leb}
 use Rattle.promises.specs.Areas.{pageAt}
 use Rattle.promises.specs.Updates.{Update, redo, ofPage}
 use Rattle.promises.specs.Book.{Book}
-use Rattle.promises.specs.Events.{
-  Sizes,
-  World,
-  withState,
-  Call,
-  opening,
-  begin,
-  describe,
-  ending,
-  logStep,
-  cleanStep,
-  reading,
-  settling,
-  Reply,
-  refuses,
-  shows,
-  says,
-  accepts,
-  Lent,
-  leftBy,
-  fallen,
-}
+use Rattle.promises.specs.Events.{Sizes, World, withState, Call, opening, begin, describe, ending, logStep, cleanStep, reading, settling, Lent, leftBy, fallen}
+use Rattle.promises.specs.Answers.{Reply, refuses, shows, says, accepts}
 use Rattle.promises.specs.Claim.{
+  Right,
   Steps,
   entered,
   cutAt,
@@ -77,18 +58,32 @@ StaysSettled by = (sizes : Sizes) → InRange sizes → (world : World) (book : 
     → (world′ : World) (book′ : Book) (run′ : Run by sizes world′ book′) → Begins run world′ book′ run′ → (reply : Reply) (world″ : World)
     → by .steps (settling ticket) world′ reply world″ → accepts reply ≡ true → reply ≡ says true
 
+-- ---- every accepted reply of a run is the book's, as it was before that call
+unfoldable pub RepliesRight : {by : Steps} {sizes : Sizes} {world : World} {book : Book} → Run by sizes world book → Type 0
+RepliesRight (formatted log log′ home frames staging answer logLong homeLong formats worldIs bookIs) = Unit {0}
+RepliesRight (called {book = book} call reply run lent step bookIs) = (accepts reply ≡ true → Right call reply book) × RepliesRight run
+RepliesRight (unfit call reply lent lent′ run same step refused worldIs bookIs) = RepliesRight run
+RepliesRight (cut call reply world′ stored frames staging run lent step worldIs bookIs) = RepliesRight run
+RepliesRight (cutUnfit call reply lent lent′ frames staging run same step refused worldIs bookIs) = RepliesRight run
+
+abbrev pub EveryReply : Steps → Type 0
+EveryReply by = (sizes : Sizes) → InRange sizes → (world : World) (book : Book) (run : Run by sizes world book) → RepliesRight run
+
 -- ---- whole transactions
 
 -- the lists that End took over along a run, each a transaction as it was described
+abbrev pub endingBy : Call → Book → List (List Update)
+endingBy (opening frames staging) book = []
+endingBy (begin u) book = []
+endingBy (describe update) book = []
+endingBy ending book = book .list ∷ []
+endingBy logStep book = []
+endingBy cleanStep book = []
+endingBy (reading page) book = []
+endingBy (settling ticket) book = []
+
 abbrev pub endsOf : Call → Bool → Book → List (List Update)
-endsOf (opening frames staging) accepted book = []
-endsOf (begin u) accepted book = []
-endsOf (describe update) accepted book = []
-endsOf ending accepted book = cond accepted (book .list ∷ []) []
-endsOf logStep accepted book = []
-endsOf cleanStep accepted book = []
-endsOf (reading page) accepted book = []
-endsOf (settling ticket) accepted book = []
+endsOf call accepted book = cond accepted (endingBy call book) []
 
 unfoldable pub endedBy : {by : Steps} {sizes : Sizes} {world : World} {book : Book} → Run by sizes world book → List (List Update)
 endedBy (formatted log log′ home frames staging answer logLong homeLong formats worldIs bookIs) = []

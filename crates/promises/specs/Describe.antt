@@ -4,17 +4,19 @@ use Prim.Native.Nat.{ℕ, _+_, _<_}
 use mathlib.Core.Path.{_≡_}
 use mathlib.Core.Bool.{false, cond}
 use mathlib.Core.List.{List, [], _∷_, _++_}
-use lib.ListN.{length}
+use lib.ListN.{length, set}
 use lib.Dec.{eqb, ltb}
 use Rattle.block.specs.Legal.{legalPlace}
 use Rattle.promises.specs.declared.State.{State}
-use Rattle.promises.specs.declared.Answer.the-variants.{Done}
+use Rattle.promises.specs.declared.Staged.{Staged}
 use Rattle.promises.specs.declared.Outcome.{Outcome}
 use Rattle.promises.specs.Areas.{stagingLength, withStaged}
 use Rattle.promises.specs.Updates.{Update}
-use Rattle.promises.specs.Contents.{Contents, contentsOf}
+use Rattle.promises.specs.Contents.{Contents, contentsOf, withOpen}
+use Rattle.promises.specs.States.{setStaged, setOpen}
+use Rattle.promises.specs.Sums.{queuedUpdates}
 use Rattle.promises.specs.Sound.{sound, member, areasOf, stagedOf}
-use Rattle.promises.specs.Answers.{refusalIn}
+use Rattle.promises.specs.Answers.{done, replied, answered}
 use Rattle.promises.specs.Leaves.{Leaves}
 
 -- of the lengths of staging and of the bytes
@@ -28,18 +30,15 @@ describeRefusal state staging page offset count =
 
 -- the update goes to the end of the open transaction's list
 abbrev pub described : Contents → Update → Contents
-described contents update = record {
-  pages = contents .pages;
-  slots = contents .slots;
-  frames = contents .frames;
-  next = contents .next;
-  ticket = contents .ticket;
-  queue = contents .queue;
-  stored = contents .stored;
-  reserved = contents .reserved;
-  list = contents .list ++ (update ∷ []);
-  cleaning = contents .cleaning;
-}
+described contents update = withOpen contents (contents .reserved) (contents .list ++ (update ∷ []))
+
+-- and to the place after the updates that wait, with the staging area that it gets
+abbrev pub describedState : State → Staged → State
+describedState state staged =
+    setOpen (setStaged state (set (state .staged) (queuedUpdates state + state .described) staged)) (state .reserved) (state .described + 1)
+
+abbrev pub stagedIn : Update → ℕ → Staged
+stagedIn update area = record { page = update .page; offset = update .offset; length = length (update .bytes); area = area }
 
 -- left to the program: the staging area that the update gets, below F and held by no waiting update. Its first bytes become the new
 -- bytes; no other byte of staging changes
@@ -48,11 +47,11 @@ pub record DescribeStep (state : State) (update : Update) (staging : List ℕ) (
   pub areaBelow : area < state .frames
   pub areaFree : member area (areasOf (stagedOf state)) ≡ false
   pub stagingIs : staging′ ≡ withStaged staging area (length (update .bytes)) (update .bytes)
-  pub answerIs : result .answer ≡ Done
+  pub stateIs : result .state ≡ describedState state (stagedIn update area)
   pub leaves : Leaves state (result .state) staging′ (described (contentsOf state staging) update)
 
 pub record Describes (state : State) (update : Update) (staging : List ℕ) (result : Outcome) (staging′ : List ℕ) : Type 0 where
-  pub refusal : refusalIn (result .answer) ≡ describeRefusal state (length staging) (update .page) (update .offset) (length (update .bytes))
+  pub answerIs : answered (result .answer) ≡ replied (describeRefusal state (length staging) (update .page) (update .offset) (length (update .bytes))) done
   pub refused : (describeRefusal state (length staging) (update .page) (update .offset) (length (update .bytes)) ≡ 0 → ⊥)
       → (result .state ≡ state) × (staging′ ≡ staging)
   pub accepted : describeRefusal state (length staging) (update .page) (update .offset) (length (update .bytes)) ≡ 0

@@ -6,26 +6,16 @@ use Prim.Native.Nat.{ℕ}
 use mathlib.Core.Bool.{Bool, true, false, cond}
 use mathlib.Core.List.{List}
 use lib.ListN.{length}
-use lib.Dec.{eqb}
 use Rattle.promises.specs.declared.State.{State}
-use Rattle.promises.specs.declared.Answer.{Answer}
-use Rattle.promises.specs.declared.Answer.the-variants.{Refused, Done}
-use Rattle.promises.specs.declared.Ended.{Ended}
-use Rattle.promises.specs.declared.Ended.the-variants.{Refused as EndRefused, Ticket}
-use Rattle.promises.specs.declared.Logged.{Logged}
-use Rattle.promises.specs.declared.Logged.the-variants.{Refused as LogRefused, Stored, Settled as LogSettled}
-use Rattle.promises.specs.declared.Opened.{Opened}
-use Rattle.promises.specs.declared.Opened.the-variants.{Refused as OpenRefused, Settled as OpenSettled}
 use Rattle.promises.specs.declared.Standing.{Standing}
-use Rattle.promises.specs.declared.Standing.the-variants.{Refused as StandingRefused, Yes, No}
 use Rattle.promises.specs.declared.Outcome.{Outcome}
 use Rattle.promises.specs.declared.EndOutcome.{EndOutcome}
 use Rattle.promises.specs.declared.LogOutcome.{LogOutcome}
 use Rattle.promises.specs.declared.OpenOutcome.{OpenOutcome}
 use Rattle.promises.specs.Areas.{framesLength, stagingLength}
 use Rattle.promises.specs.Updates.{Update}
-use Rattle.promises.specs.Contents.{allZeroState}
-use Rattle.promises.specs.Answers.{numberOf}
+use Rattle.promises.specs.States.{allZeroState}
+use Rattle.promises.specs.Answers.{Reply, answered, endAnswered, logAnswered, openAnswered, standingAnswered, readAnswered}
 use Rattle.promises.specs.Open.{Opens}
 use Rattle.promises.specs.Begin.{Begins}
 use Rattle.promises.specs.Describe.{Describes}
@@ -49,8 +39,12 @@ pub record World : Type 0 where
   pub frames : List ℕ
   pub staging : List ℕ
 
+-- a world with another state, and with other areas
 abbrev pub withState : World → State → World
 withState world state = record { state = state; log = world .log; home = world .home; frames = world .frames; staging = world .staging }
+
+abbrev pub withAreas : World → List ℕ → List ℕ → List ℕ → List ℕ → World
+withAreas world log home frames staging = record { state = world .state; log = log; home = home; frames = frames; staging = staging }
 
 -- a call with its arguments; Open may be lent any frames and staging, the other calls get the areas that the last one left
 pub data Call : Type 0 where
@@ -63,48 +57,6 @@ pub data Call : Type 0 where
   reading : ℕ → Call
   settling : ℕ → Call
 
--- what a caller is told: End gives a ticket, Log step and Open report one as settled
-pub data Reply : Type 0 where
-  refuses : ℕ → Reply
-  done : Reply
-  gives : ℕ → Reply
-  settles : ℕ → Reply
-  shows : List ℕ → Reply
-  says : Bool → Reply
-
-abbrev pub accepts : Reply → Bool
-accepts (refuses refusal) = false
-accepts done = true
-accepts (gives ticket) = true
-accepts (settles ticket) = true
-accepts (shows bytes) = true
-accepts (says answer) = true
-
-abbrev pub answered : Answer → Reply
-answered (Refused refusal) = refuses (numberOf refusal)
-answered Done = done
-
-abbrev pub endAnswered : Ended → Reply
-endAnswered (EndRefused refusal) = refuses (numberOf refusal)
-endAnswered (Ticket ticket) = gives ticket
-
-abbrev pub logAnswered : Logged → Reply
-logAnswered (LogRefused refusal) = refuses (numberOf refusal)
-logAnswered Stored = done
-logAnswered (LogSettled ticket) = settles ticket
-
-abbrev pub openAnswered : Opened → Reply
-openAnswered (OpenRefused refusal place) = refuses (numberOf refusal)
-openAnswered (OpenSettled ticket) = settles ticket
-
-abbrev pub standingAnswered : Standing → Reply
-standingAnswered (StandingRefused refusal) = refuses (numberOf refusal)
-standingAnswered Yes = says true
-standingAnswered No = says false
-
-abbrev pub readAnswered : ℕ → List ℕ → Reply
-readAnswered refusal bytes = cond (eqb refusal 0) (shows bytes) (refuses refusal)
-
 -- ---- each call's step is its promise
 
 pub record Opening (world : World) (frames staging : List ℕ) (reply : Reply) (world′ : World) : Type 0 where
@@ -112,7 +64,7 @@ pub record Opening (world : World) (frames staging : List ℕ) (reply : Reply) (
   pub frames′ : List ℕ
   pub promise : Opens (world .log) (world .home) frames staging result frames′
   pub replyIs : reply ≡ openAnswered (result .answer)
-  pub after : world′ ≡ record { state = result .state; log = world .log; home = world .home; frames = frames′; staging = staging }
+  pub after : world′ ≡ withState (withAreas world (world .log) (world .home) frames′ staging) (result .state)
 
 pub record Beginning (world : World) (u : ℕ) (reply : Reply) (world′ : World) : Type 0 where
   pub result : Outcome
@@ -125,7 +77,7 @@ pub record Describing (world : World) (update : Update) (reply : Reply) (world�
   pub staging′ : List ℕ
   pub promise : Describes (world .state) update (world .staging) result staging′
   pub replyIs : reply ≡ answered (result .answer)
-  pub after : world′ ≡ record { state = result .state; log = world .log; home = world .home; frames = world .frames; staging = staging′ }
+  pub after : world′ ≡ withState (withAreas world (world .log) (world .home) (world .frames) staging′) (result .state)
 
 pub record Ending (world : World) (reply : Reply) (world′ : World) : Type 0 where
   pub result : EndOutcome
@@ -139,7 +91,7 @@ pub record Logging (world : World) (reply : Reply) (world′ : World) : Type 0 w
   pub frames′ : List ℕ
   pub promise : LogSteps (world .state) (world .log) (world .home) (world .frames) (world .staging) result log′ frames′
   pub replyIs : reply ≡ logAnswered (result .answer)
-  pub after : world′ ≡ record { state = result .state; log = log′; home = world .home; frames = frames′; staging = world .staging }
+  pub after : world′ ≡ withState (withAreas world log′ (world .home) frames′ (world .staging)) (result .state)
 
 pub record Cleaning (world : World) (reply : Reply) (world′ : World) : Type 0 where
   pub result : Outcome
@@ -147,7 +99,7 @@ pub record Cleaning (world : World) (reply : Reply) (world′ : World) : Type 0 
   pub home′ : List ℕ
   pub promise : CleanSteps (world .state) (world .log) (world .home) (world .frames) result log′ home′
   pub replyIs : reply ≡ answered (result .answer)
-  pub after : world′ ≡ record { state = result .state; log = log′; home = home′; frames = world .frames; staging = world .staging }
+  pub after : world′ ≡ withState (withAreas world log′ home′ (world .frames) (world .staging)) (result .state)
 
 pub record Reading (world : World) (page : ℕ) (reply : Reply) (world′ : World) : Type 0 where
   pub home : RefT (List ℕ)
@@ -193,4 +145,4 @@ leftBy stored before after = cond stored after before
 
 -- after a cut: log and home are left, the state is all-zero, frames and staging hold anything
 abbrev pub fallen : World → List ℕ → List ℕ → World
-fallen world frames staging = record { state = allZeroState; log = world .log; home = world .home; frames = frames; staging = staging }
+fallen world frames staging = withState (withAreas world (world .log) (world .home) frames staging) allZeroState

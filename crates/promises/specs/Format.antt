@@ -6,15 +6,14 @@ use mathlib.Core.Bool.{cond}
 use mathlib.Core.List.{List}
 use lib.ListN.{length, replicate}
 use Rattle.promises.specs.declared.Answer.{Answer}
-use Rattle.promises.specs.declared.Answer.the-variants.{Done}
 use Rattle.promises.specs.Areas.{logFits}
-use Rattle.promises.specs.Answers.{refusalIn}
+use Rattle.promises.specs.Answers.{done, replied, answered}
 
 -- of the log's length
 abbrev pub formatRefusal : ℕ → ℕ
 formatRefusal log = cond (logFits log) 0 1
 
 pub record Formats (log : List ℕ) (answer : Answer) (log′ : List ℕ) : Type 0 where
-  pub refusal : refusalIn answer ≡ formatRefusal (length log)
+  pub answerIs : answered answer ≡ replied (formatRefusal (length log)) done
   pub refused : (formatRefusal (length log) ≡ 0 → ⊥) → log′ ≡ log
-  pub accepted : formatRefusal (length log) ≡ 0 → (answer ≡ Done) × (log′ ≡ replicate (length log) 0)
+  pub accepted : formatRefusal (length log) ≡ 0 → log′ ≡ replicate (length log) 0

@@ -5,6 +5,7 @@ pub mod DirtyPages
 pub mod Newest
 pub mod Walk
 pub mod Contents
+pub mod States
 pub mod Sums
 pub mod Sound
 pub mod Answers

@@ -9,14 +9,15 @@ use lib.ListN.{length, replicate}
 use lib.Dec.{eqb}
 use Rattle.promises.specs.declared.State.{State}
 use Rattle.promises.specs.declared.Cleaning.the-variants.{Idle}
-use Rattle.promises.specs.declared.Opened.the-variants.{Settled}
+use Rattle.promises.specs.declared.Dirty.{Dirty}
 use Rattle.promises.specs.declared.OpenOutcome.{OpenOutcome}
 use Rattle.promises.specs.Areas.{logFits, homeFits, framesFit, slotsIn, pagesIn, framesIn}
 use Rattle.promises.specs.DirtyPages.{lookUp}
 use Rattle.promises.specs.Walk.{Walk, Finding, stops, stands, finding}
-use Rattle.promises.specs.Contents.{Contents, contentsOf, dirtyOf, allZeroState}
+use Rattle.promises.specs.Contents.{Contents, contentsOf, dirtyOf}
+use Rattle.promises.specs.States.{emptyState, allZeroState, setBlock, setDirty, Fills}
 use Rattle.promises.specs.Sound.{sound}
-use Rattle.promises.specs.Answers.{openRefusalIn, placeIn}
+use Rattle.promises.specs.Answers.{refuses, settles, openAnswered, placeIn}
 
 -- the lengths are whole counts in range
 abbrev pub lengthsFit : ℕ → ℕ → ℕ → ℕ → Bool
@@ -33,7 +34,7 @@ openFinding log home frames staging =
 abbrev pub framesAfter : ℕ → List ℕ → List ℕ
 framesAfter refusal frames = cond (eqb refusal 1) frames (replicate (length frames) 0)
 
--- a state with nothing queued, nothing open and no cleaning
+-- nothing queued, nothing open and no cleaning
 abbrev pub opened : ℕ → ℕ → ℕ → ℕ → ℕ → Contents
 opened pages slots frames next ticket = record {
   pages = pages;
@@ -48,8 +49,11 @@ opened pages slots frames next ticket = record {
   cleaning = Idle;
 }
 
+abbrev pub openedState : ℕ → ℕ → ℕ → ℕ → ℕ → List Dirty → State
+openedState pages slots frames next ticket dirty = setDirty (setBlock (emptyState pages slots frames) next ticket) dirty
+
 pub record OpenStops (refusal place : ℕ) (frames : List ℕ) (result : OpenOutcome) (frames′ : List ℕ) : Type 0 where
-  pub refusalIs : openRefusalIn (result .answer) ≡ refusal
+  pub answerIs : openAnswered (result .answer) ≡ refuses refusal
   pub placeIs : placeIn (result .answer) ≡ place
   pub stateIs : result .state ≡ allZeroState
   pub framesAre : frames′ ≡ framesAfter refusal frames
@@ -57,8 +61,11 @@ pub record OpenStops (refusal place : ℕ) (frames : List ℕ) (result : OpenOut
 -- left to the program: the frame that a dirty page gets, and the bytes of the frames that hold none. The state tells the frames; by its
 -- soundness they are below F and no two pages share one
 pub record OpenStands (next : ℕ) (walk : Walk) (log home frames : List ℕ) (result : OpenOutcome) (frames′ : List ℕ) : Type 0 where
-  pub answerIs : result .answer ≡ Settled (walk .ticket)
+  pub answerIs : openAnswered (result .answer) ≡ settles (walk .ticket)
   pub framesLong : length frames′ ≡ length frames
+  pub fills : Fills (allZeroState .dirty) (result .state .dirty)
+  pub stateIs : result .state
+      ≡ openedState (pagesIn (length home)) (slotsIn (length log)) (framesIn (length frames)) next (walk .ticket) (result .state .dirty)
   pub staysSound : sound (result .state) ≡ true
   pub contentsAre : (staging : List ℕ)
       → contentsOf (result .state) staging ≡ opened (pagesIn (length home)) (slotsIn (length log)) (framesIn (length frames)) next (walk .ticket)

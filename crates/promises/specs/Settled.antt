@@ -6,10 +6,9 @@ use mathlib.Core.Bool.{cond, _&&_}
 use lib.Dec.{leb}
 use Rattle.promises.specs.declared.State.{State}
 use Rattle.promises.specs.declared.Standing.{Standing}
-use Rattle.promises.specs.declared.Standing.the-variants.{Yes, No}
 use Rattle.promises.specs.Sums.{lastEnded}
 use Rattle.promises.specs.Sound.{sound}
-use Rattle.promises.specs.Answers.{standingRefusalIn}
+use Rattle.promises.specs.Answers.{says, replied, standingAnswered}
 
 -- 3 if the ticket is 0 or above the last ended
 unfoldable pub settledRefusal : State → ℕ → ℕ
@@ -17,5 +16,4 @@ settledRefusal state ticket = cond (sound state) (cond (leb 1 ticket && leb tick
 
 -- yes if it is committed, else no
 pub record Settles (state : State) (ticket : ℕ) (answer : Standing) : Type 0 where
-  pub refusal : standingRefusalIn answer ≡ settledRefusal state ticket
-  pub answerIs : settledRefusal state ticket ≡ 0 → answer ≡ cond (leb ticket (state .ticket)) Yes No
+  pub answerIs : standingAnswered answer ≡ replied (settledRefusal state ticket) (says (leb ticket (state .ticket)))

@@ -14,7 +14,8 @@ use Rattle.block.specs.declared.Judged.the-variants.{Damaged}
 use Rattle.promises.specs.Areas.{slotBytes, withSlot}
 use Rattle.promises.specs.Blocks.{damaged, slotAt}
 use Rattle.promises.specs.Book.{Book}
-use Rattle.promises.specs.Events.{Sizes, World, opening, reading, Reply, refuses, settles, shows, accepts, Lent}
+use Rattle.promises.specs.Events.{Sizes, World, opening, reading, Lent}
+use Rattle.promises.specs.Answers.{Reply, refuses, settles, shows, accepts}
 use Rattle.promises.specs.Claim.{Steps, Run, InRange}
 use Rattle.promises.specs.Stored.{storedBy}
 

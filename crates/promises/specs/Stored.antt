@@ -7,7 +7,8 @@ use Rattle.promises.specs.declared.Cleaning.{Cleaning}
 use Rattle.promises.specs.declared.Cleaning.the-variants.{Idle, First, Second, Third}
 use Rattle.promises.specs.Blocks.{LogBlock, noBlock, Slot, unused, damaged, valid, slotAt}
 use Rattle.promises.specs.Book.{Book}
-use Rattle.promises.specs.Events.{Sizes, World, Call, opening, begin, describe, ending, logStep, cleanStep, reading, settling, accepts}
+use Rattle.promises.specs.Events.{Sizes, World, Call, opening, begin, describe, ending, logStep, cleanStep, reading, settling}
+use Rattle.promises.specs.Answers.{accepts}
 use Rattle.promises.specs.Claim.{Steps, Run, formatted, called, unfit, cut, cutUnfit, both}
 
 abbrev pub blockOf : Slot → LogBlock

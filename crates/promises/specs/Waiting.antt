@@ -9,7 +9,8 @@ use lib.ListN.{length}
 use Rattle.block.specs.Sizes.{sequenceEnd}
 use Rattle.promises.specs.Areas.{logLength, homeLength, framesLength, stagingLength}
 use Rattle.promises.specs.Sums.{openOnes, dirtyCount, waitingBlocks}
-use Rattle.promises.specs.Events.{World, Call, begin, logStep, cleanStep, Reply, refuses, done, accepts}
+use Rattle.promises.specs.Events.{World, Call, begin, logStep, cleanStep}
+use Rattle.promises.specs.Answers.{Reply, refuses, done, accepts}
 use Rattle.promises.specs.Claim.{Steps}
 
 -- all lengths are right

@@ -17,9 +17,9 @@ use Rattle.promises.specs.declared.Cleaning.the-variants.{Idle, First, Second, 
 use Rattle.promises.specs.Updates.{Update, ofPage}
 use Rattle.promises.specs.Contents.{contentsOf, waiting, total, grouped, groupsOf, queueOf, listOf}
 use Rattle.promises.specs.Sound.{member, distinct, allBelow, allLegal, areasOf, stagedOf}
-use Rattle.promises.specs.LogStep.{idleUnlessNone, cleaningAfter, commitStored}
+use Rattle.promises.specs.LogStep.{idleUnlessNone, cleaningAfter, shifted, commitStored}
 use Rattle.promises.proofs.Soundness.{and-both, Sound}
-use Rattle.queue.specs.Queue.{changes, idleIf, cleaningLeft, shifted, commitDone}
+use Rattle.queue.specs.Queue.{changes, idleIf, cleaningLeft, commitDone}
 
 -- ---- lists
 

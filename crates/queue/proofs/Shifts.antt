@@ -14,7 +14,8 @@ use Rattle.promises.specs.declared.Staged.{Staged}
 use Rattle.promises.specs.declared.Cleaning.{Cleaning}
 use Rattle.promises.specs.declared.Cleaning.the-variants.{Idle, First, Second, Third}
 use Rattle.table.proofs.Scans.{rest, rest-cons, rest-end}
-use Rattle.queue.specs.Queue.{changes, idleIf, cleaningLeft, shifted}
+use Rattle.promises.specs.LogStep.{shifted}
+use Rattle.queue.specs.Queue.{changes, idleIf, cleaningLeft}
 
 abbrev pub noStaged : Staged
 noStaged = record { page = 0; offset = 0; length = 0; area = 0 }

@@ -2,14 +2,16 @@
 -- Assumes nothing.
 use Prim.Native.Nat.{ℕ, _+_, _-_}
 use mathlib.Core.Bool.{Bool, true, false, _||_}
-use mathlib.Core.List.{List, [], _∷_, _++_}
-use lib.ListN.{length, take, drop}
+use mathlib.Core.List.{List, [], _∷_}
+use lib.ListN.{take}
 use lib.Dec.{eqb}
 use Rattle.promises.specs.declared.State.{State}
 use Rattle.promises.specs.declared.Dirty.{Dirty}
 use Rattle.promises.specs.declared.Staged.{Staged}
 use Rattle.promises.specs.declared.Cleaning.{Cleaning}
 use Rattle.promises.specs.declared.Cleaning.the-variants.{Idle, First, Second, Third}
+use Rattle.promises.specs.States.{setBlock, setDirty, setStaged, setGroups, setStored, setCleaning}
+use Rattle.promises.specs.LogStep.{shifted}
 
 -- one of some staged updates changes a page
 abbrev pub changes : ℕ → List Staged → Bool
@@ -27,24 +29,12 @@ cleaningLeft group (First page) = idleIf (changes page group) (First page)
 cleaningLeft group (Second page) = idleIf (changes page group) (Second page)
 cleaningLeft group (Third page) = idleIf (changes page group) (Third page)
 
--- a list without its first count elements, as long as before: what stood last stays there too
-unfoldable pub shifted : {A : Type 0} → List A → ℕ → List A
-shifted list count = drop count list ++ drop (length list - count) list
-
--- the state once the oldest group, of size updates, is committed and these pages are dirty
+-- the state once the oldest group, of size updates, is committed and these are the frames' entries
 abbrev pub commitDone : State → List Dirty → ℕ → State
-commitDone state dirty size = record {
-  pages = state .pages;
-  slots = state .slots;
-  frames = state .frames;
-  next = state .next + 1;
-  ticket = state .ticket + 1;
-  dirty = dirty;
-  staged = shifted (state .staged) size;
-  groups = shifted (state .groups) 1;
-  queued = state .queued - 1;
-  stored = 0;
-  reserved = state .reserved;
-  described = state .described;
-  cleaning = cleaningLeft (take size (state .staged)) (state .cleaning);
-}
+commitDone state dirty size =
+    setCleaning (setStored (setGroups (setStaged (setDirty (setBlock state (state .next + 1) (state .ticket + 1))
+    dirty)
+    (shifted (state .staged) size))
+    (shifted (state .groups) 1) (state .queued - 1))
+    0)
+    (cleaningLeft (take size (state .staged)) (state .cleaning))

@@ -6,7 +6,8 @@ use promises::State;
 ghost use mathlib.Core.Path.{_≡_};
 ghost use Prim.Native.Nat.{_≤_};
 ghost use lib.ListN.{take};
-ghost use Rattle.queue.specs.Queue.{changes, idleIf, cleaningLeft, shifted};
+ghost use Rattle.promises.specs.LogStep.{shifted};
+ghost use Rattle.queue.specs.Queue.{changes, idleIf, cleaningLeft};
 
 // Whether one of the first count staged updates changes a page.
 pub fn page_changed(state: State, count: usize, page: u16) -> bool

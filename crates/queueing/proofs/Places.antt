@@ -21,11 +21,11 @@ use Rattle.promises.specs.declared.Answer.the-variants.{Done}
 use Rattle.promises.specs.Areas.{withStaged}
 use Rattle.promises.specs.Contents.{total, groupsOf}
 use Rattle.promises.specs.Sound.{member, areasOf, stagedOf}
-use Rattle.promises.specs.Describe.{describeRefusal, Describes}
+use Rattle.promises.specs.Describe.{describeRefusal, describedState, Describes}
 use Rattle.promises.specs.Read.{Held, atHome, inFrame, heldIn, startOf, readRefusalOf, Reads}
 use Rattle.promises.proofs.Changes.{bytesAt, held-shows}
-use Rattle.promises.proofs.Describing.{added, describe-met}
-use Rattle.promises.proofs.Table.{free}
+use Rattle.promises.proofs.Describing.{describe-met}
+use Rattle.promises.specs.States.{free, setStaged, setOpen}
 use Rattle.soundness.proofs.Scans.{from-cons}
 use Rattle.queueing.specs.Queueing.{updateOf, heldAt}
 
@@ -90,21 +90,7 @@ module _ (s : State) (home frames : RefT (List ℕ)) (page number : ℕ) (is : n
 
 -- the state with an update more in a place
 abbrev pub addedAt : State → ℕ → Staged → State
-addedAt s place update = record {
-  pages = s .pages;
-  slots = s .slots;
-  frames = s .frames;
-  next = s .next;
-  ticket = s .ticket;
-  dirty = s .dirty;
-  staged = set (s .staged) place update;
-  groups = s .groups;
-  queued = s .queued;
-  stored = s .stored;
-  reserved = s .reserved;
-  described = s .described + 1;
-  cleaning = s .cleaning;
-}
+addedAt s place update = setOpen (setStaged s (set (s .staged) place update)) (s .reserved) (s .described + 1)
 
 -- an update in a free area, in the place after those that wait, with its bytes copied there
 pub describe-done : (s : State) (page offset area start count : ℕ) (bytes staging staging′ : List ℕ) → length (s .staged) ≡ 32
@@ -116,5 +102,5 @@ describe-done s page offset area start count bytes staging staging′ long e bel
     let stored : staging′ ≡ withStaged staging area (length bytes) bytes =
     copied ∙ ap (λ (l : List ℕ). splice staging (start * 472) (length bytes) l) (part-all bytes (length bytes) (omega arith)) ∙ ap (λ (n : ℕ). splice staging (n * 472) (length bytes) bytes) at in
     subst (λ (n : ℕ). Describes s (updateOf page offset bytes) staging (record { state = addedAt s n (record { page = page; offset = offset; length = length bytes; area = area }); answer = Done }) staging′) (sym is)
-    (subst (λ (l : List ℕ). Describes s (updateOf page offset bytes) staging (record { state = added s (record { page = page; offset = offset; length = length bytes; area = area }); answer = Done }) l) (sym stored)
+    (subst (λ (l : List ℕ). Describes s (updateOf page offset bytes) staging (record { state = describedState s (record { page = page; offset = offset; length = length bytes; area = area }); answer = Done }) l) (sym stored)
     (describe-met s page offset area bytes staging long e below free))

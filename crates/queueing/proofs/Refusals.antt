@@ -1,7 +1,7 @@
 -- What refusals and their absence tell: the tests of the code are those of the definitions, a refused call keeps its promise,
 -- and an accepted one knows what its change needs.
 -- Assumes nothing.
-use mathlib.Core.Path.{_≡_, refl, sym, _∙_}
+use mathlib.Core.Path.{_≡_, refl, sym, ap, _∙_}
 use mathlib.Core.Bool.{Bool, true, false, _&&_, and-assoc}
 use mathlib.Core.List.{List}
 use Prim.Native.Nat.{ℕ, _+_, _*_, _/_, _^_, _≤_, _<_}
@@ -16,11 +16,11 @@ use Rattle.promises.specs.declared.Refusal.{Refusal}
 use Rattle.promises.specs.declared.Answer.the-variants.{Refused}
 use Rattle.promises.specs.declared.Ended.the-variants.{Refused as EndRefused}
 use Rattle.promises.specs.declared.Standing.the-variants.{Refused as StandingRefused}
-use Rattle.promises.specs.Answers.{numberOf}
+use Rattle.promises.specs.Answers.{Reply, refuses, done, gives, says, numberOf, replied}
 use Rattle.promises.specs.Areas.{logFits}
 use Rattle.promises.specs.Updates.{Update}
 use Rattle.promises.specs.Contents.{total, groupsOf}
-use Rattle.promises.specs.Sums.{waitingBlocks}
+use Rattle.promises.specs.Sums.{waitingBlocks, lastEnded}
 use Rattle.promises.specs.Sound.{sound}
 use Rattle.promises.specs.Format.{formatRefusal, Formats}
 use Rattle.promises.specs.Begin.{beginInRange, beginHasRoom, beginRefusal, Begins}
@@ -28,6 +28,7 @@ use Rattle.promises.specs.Describe.{describeRefusal, Describes}
 use Rattle.promises.specs.End.{endRefusal, Ends}
 use Rattle.promises.specs.Settled.{settledRefusal, Settles}
 use Rattle.promises.specs.Read.{readRefusal}
+use Rattle.promises.proofs.Replies.{replied-refused}
 use Rattle.promises.proofs.Soundness.{Sound, sound-of}
 use Rattle.promises.proofs.Changes.{pick-zero, pick-other, describe-passed, groups-count}
 use Rattle.soundness.specs.declared.sums.Sums.{Sums}
@@ -70,22 +71,26 @@ eleven n h k = omega arith
 -- ---- refused calls
 
 module _ (x : Refusal) (number : ℕ) (is : numberOf x ≡ number) (some : number ≡ 0 → ⊥) where
+  -- the whole answer of a refused call
+  whole-answer : {n : ℕ} → number ≡ n → (reply : Reply) → refuses (numberOf x) ≡ replied n reply
+  whole-answer {n} e reply = ap refuses (is ∙ e) ∙ sym (replied-refused n reply (λ z. some (e ∙ z)))
+
   pub format-refused : (log : List ℕ) → number ≡ formatRefusal (length log) → Formats log (Refused x) log
-  format-refused log e = record { refusal = is ∙ e; refused = λ n. refl; accepted = λ z. absurd (some (e ∙ z)) }
+  format-refused log e = record { answerIs = whole-answer e done; refused = λ n. refl; accepted = λ z. absurd (some (e ∙ z)) }
 
   pub begin-refused : (s : State) (u : ℕ) → number ≡ beginRefusal s u → Begins s u (record { state = s; answer = Refused x })
-  begin-refused s u e = record { refusal = is ∙ e; refused = λ n. refl; answerIs = λ z. absurd (some (e ∙ z)); leaves = λ z. absurd (some (e ∙ z)) }
+  begin-refused s u e = record { answerIs = whole-answer e done; refused = λ n. refl; stateIs = λ z. absurd (some (e ∙ z)); leaves = λ z. absurd (some (e ∙ z)) }
 
   pub describe-refused : (s : State) (update : Update) (staging : List ℕ)
       → number ≡ describeRefusal s (length staging) (update .page) (update .offset) (length (update .bytes))
       → Describes s update staging (record { state = s; answer = Refused x }) staging
-  describe-refused s update staging e = record { refusal = is ∙ e; refused = λ n. (refl, refl); accepted = λ z. absurd (some (e ∙ z)) }
+  describe-refused s update staging e = record { answerIs = whole-answer e done; refused = λ n. (refl, refl); accepted = λ z. absurd (some (e ∙ z)) }
 
   pub end-refused : (s : State) → number ≡ endRefusal s → Ends s (record { state = s; answer = EndRefused x })
-  end-refused s e = record { refusal = is ∙ e; refused = λ n. refl; answerIs = λ z. absurd (some (e ∙ z)); leaves = λ z. absurd (some (e ∙ z)) }
+  end-refused s e = record { answerIs = whole-answer e (gives (lastEnded s + 1)); refused = λ n. refl; stateIs = λ z. absurd (some (e ∙ z)); leaves = λ z. absurd (some (e ∙ z)) }
 
   pub settled-refused : (s : State) (ticket : ℕ) → number ≡ settledRefusal s ticket → Settles s ticket (StandingRefused x)
-  settled-refused s ticket e = record { refusal = is ∙ e; answerIs = λ z. absurd (some (e ∙ z)) }
+  settled-refused s ticket e = record { answerIs = whole-answer e (says (leb ticket (s .ticket))) }
 
 -- ---- accepted calls
 

@@ -112,6 +112,7 @@ left-ends log table home frames start count i false seats frames₁ e f =
     f (seated true seats) frames₁ record {
       countIs = refl;
       framesLong = refl;
+      kept = λ f n. refl;
       stays = λ q. (refl, refl);
       fits = λ es q h l. absurd (never-both true refl q);
       fills = λ es q h l. refl;

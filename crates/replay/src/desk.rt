@@ -7,7 +7,7 @@ use promises::State;
 ghost use mathlib.Core.Path.{_≡_};
 ghost use Prim.Native.Nat.{_≤_};
 ghost use Rattle.io.specs.Counts.{Counts};
-ghost use Rattle.promises.specs.Contents.{allZeroState};
+ghost use Rattle.promises.specs.States.{allZeroState};
 
 // Bytes of each area.
 pub struct Lengths {

@@ -15,7 +15,7 @@ use Rattle.promises.specs.declared.Staged.{Staged}
 use Rattle.promises.specs.Contents.{total}
 use Rattle.promises.specs.Sums.{firstGroups, smallest, blockCount}
 use Rattle.promises.specs.Sound.{dirtyNumbers, areasOf, ofOldest}
-use Rattle.promises.proofs.Table.{free}
+use Rattle.promises.specs.States.{free}
 use Rattle.soundness.specs.Tests.{entryLegal, entriesLegal, noStaged, stagedLegal, updatesLegal}
 
 -- the length of an array of structs in a struct, as owning the struct tells it: `search (needs, length-mapped)` finds the premise

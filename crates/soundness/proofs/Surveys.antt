@@ -11,7 +11,8 @@ use borrow.Author.Tests.{eqb-true, not-false}
 use Rattle.promises.specs.declared.Dirty.{Dirty}
 use Rattle.promises.specs.Sums.{firstGroups, smallest}
 use Rattle.promises.specs.Sound.{dirtyNumbers}
-use Rattle.promises.proofs.Table.{free, or-false}
+use Rattle.promises.proofs.Table.{or-false}
+use Rattle.promises.specs.States.{free}
 use Rattle.soundness.specs.Tests.{entriesLegal}
 use Rattle.soundness.proofs.Scans.{firsts-same, oldest-same, legal-same, gathered-same}
 

@@ -1,7 +1,7 @@
 -- Every refusal has a number other than 0; and a refused Log step keeps its whole promise: it answers its refusal and leaves everything as
 -- it was.
 -- Assumes nothing.
-use mathlib.Core.Path.{_≡_, refl}
+use mathlib.Core.Path.{_≡_, refl, ap}
 use Prim.Native.Nat.{ℕ, _<_}
 use mathlib.Core.List.{List}
 use native.Mathlib.Omega.{arith}
@@ -21,7 +21,7 @@ use Rattle.promises.specs.declared.Refusal.the-variants.{
   HeldBack,
 }
 use Rattle.promises.specs.declared.Logged.the-variants.{Refused as LogRefused}
-use Rattle.promises.specs.Answers.{numberOf}
+use Rattle.promises.specs.Answers.{refuses, numberOf}
 use Rattle.promises.specs.LogStep.{logRefusalOf, LogSteps}
 
 -- every refusal has a number
@@ -38,14 +38,9 @@ numbered TooFewFrames = omega arith
 numbered NothingToDo = omega arith
 numbered HeldBack = omega arith
 
-refuses : {X : Type 0} (refusal : Refusal) (number : ℕ) → numberOf refusal ≡ number → number ≡ 0 → X
-refuses refusal number e z = absurd (omega (arith, numbered refusal))
-
 pub log-refused : (s : State) (log home frames staging : List ℕ) (refusal : Refusal) → numberOf refusal ≡ logRefusalOf s log home frames staging
     → LogSteps s log home frames staging (record { state = s; answer = LogRefused refusal }) log frames
 log-refused s log home frames staging refusal e = record {
-  refusal = e;
-  refused = λ n. (refl, refl, refl);
-  updates = λ z g q h l. refuses refusal _ e z;
-  commits = λ z g q h l. refuses refusal _ e z;
+  refused = λ n. (ap refuses e, refl, refl, refl);
+  accepted = λ z. absurd (omega (arith, numbered refusal));
 }

@@ -8,7 +8,7 @@ use native.Mathlib.Omega.{arith}
 use native.Mathlib.Nat.{zero-add}
 use lib.Dec.{eqb}
 use lib.ListN.{length, getD, set}
-use lib.Seq.{length-take-le, getD-take, set-getD, drop-set-lt}
+use lib.Seq.{length-take-le, getD-take, getD-set-other, set-getD, drop-set-lt}
 use borrow.Author.Tests.{eqb-true, eqb-false, eq-eqb, ne-eqb, lt-ltb, le-ltb, not-true}
 use Rattle.area.specs.Part.{part, splice}
 use Rattle.area.proofs.Parts.{either, length-part, length-splice, part-all, part-same, area-other}
@@ -24,8 +24,9 @@ use Rattle.promises.proofs.Soundness.{and-both}
 use Rattle.promises.proofs.Table.{entryOr, lookUp-set, apply-new, apply-old, lookUp-none, lookUp-freed, lookUp-without}
 use Rattle.promises.proofs.History.WalkStart.{distinct-apply, distinct-without}
 use Rattle.table.specs.declared.Table.{Table}
-use Rattle.table.specs.Search.{free, isFree, isOf, placeOf, entriesOf, seatOf}
-use Rattle.table.specs.Table.{Holds, Enters, Applies, AppliesAll, Drops, fullTable, withDirty}
+use Rattle.table.specs.Search.{isFree, placeOf, entriesOf, seatOf}
+use Rattle.promises.specs.States.{free, isOf}
+use Rattle.table.specs.Table.{Holds, Keeps, Enters, Applies, AppliesAll, Drops, fullTable, withDirty}
 use Rattle.table.proofs.LookUps.{distinct-of, of-distinct, apply-new-length, apply-all-grows}
 use Rattle.table.proofs.Entries.{member-set, distinct-set, own-apart, place-true, none-held, none-free, within-most}
 use Rattle.table.proofs.FrameBytes.{put-same, put-other}
@@ -218,6 +219,7 @@ module _ (home frames : List ℕ) (u : Update) (group : ℕ) (t : Table) where
     applies-full i f e k = record {
       countIs = refl;
       framesLong = refl;
+      kept = λ g n. refl;
       stays = λ g. never g f;
       fits = λ es g h l. absurd (too-many es h l);
       fills = λ es g h l. refl;
@@ -277,6 +279,12 @@ module _ (home frames : List ℕ) (u : Update) (group : ℕ) (t : Table) where
           ap length (entered .taken z .1)
           ∙ length-splice frames (i * 1024) 1024 (pageAt home (u .page)) (omega arith) (length-part home (u .page * 1024) 1024 in-home)
 
+      keeps : Seat → Keeps t r
+      keeps (held o) g n = ap (λ (x : Table). getD (x .dirty) g free) (entered .used (in-use o) .0)
+      keeps (vacant m z) g n =
+          ap (λ (x : Table). getD (x .dirty) g free) (entered .taken z .0)
+          ∙ getD-set-other (t .dirty) i g (record { page = u .page; first = group }) free (λ q. n (ap (λ (j : ℕ). getD (t .dirty) j free .first) q ∙ z))
+
       not-full : Seat → r .full ≡ false
       not-full (held o) = ap (λ (x : Table). x .full) (entered .used (in-use o) .0) ∙ f
       not-full (vacant n z) = ap (λ (x : Table). x .full) (entered .taken z .0) ∙ f
@@ -299,6 +307,7 @@ module _ (home frames : List ℕ) (u : Update) (group : ℕ) (t : Table) where
       applies-in = record {
         countIs = counts seat;
         framesLong = length-splice frames₁ (i * 1024 + u .offset) (length (u .bytes)) (u .bytes) (omega (arith, lengths seat)) refl ∙ lengths seat;
+        kept = keeps seat;
         stays = λ g. never g f;
         fits = λ es g h l. (not-full seat, holds seat es h);
         fills = λ es g h l. absurd (omega (arith, counts seat, held-count r frames₂ (apply group (pageAt home) u es) (holds seat es h), within-most (r .count) (r .dirty) (holds seat es h .within)));
@@ -369,6 +378,7 @@ unfolding applyAll
 applies-none t home frames group = record {
   countIs = refl;
   framesLong = refl;
+  kept = λ g n. refl;
   stays = λ e. (refl, refl);
   fits = λ es f h l. (f, h);
   fills = λ es f h l. absurd (omega (arith, held-count t frames es h, within-most (t .count) (t .dirty) (h .within)));
@@ -380,6 +390,7 @@ unfolding applyAll
 applies-more t t₁ r home frames frames₁ frames′ u us group a b = record {
   countIs = b .countIs ∙ a .countIs;
   framesLong = b .framesLong ∙ a .framesLong;
+  kept = λ g n. b .kept g (λ z. n (ap (λ (d : Dirty). d .first) (sym (a .kept g n)) ∙ z)) ∙ a .kept g n;
   stays = λ e. let p = a .stays e in let q = b .stays (ap (λ (x : Table). x .full) (p .0) ∙ e) in (q .0 ∙ p .0, q .1 ∙ p .1);
   fits = λ es f h l.
       let m : length (apply group (pageAt home) u es) ≤ t .count = omega (arith, apply-all-grows group (pageAt home) us (apply group (pageAt home) u es)) in

@@ -15,7 +15,8 @@ use Rattle.promises.specs.Sums.{firstGroups}
 use Rattle.promises.specs.Sound.{member, distinct, allBelow, dirtyNumbers}
 use Rattle.promises.proofs.Soundness.{and-both, and2}
 use Rattle.promises.proofs.Table.{or-false}
-use Rattle.table.specs.Search.{free, isFree, isOf, placeOf}
+use Rattle.table.specs.Search.{isFree, placeOf}
+use Rattle.promises.specs.States.{free, isOf, freed}
 
 never : {X : Type 0} → _≡_ {A = Bool} true false → X
 never e = let y : _≡_ {A = ℕ} 0 1 = cc in absurd (omega arith)
@@ -189,3 +190,48 @@ first-below end (d ∷ ds) (suc i) z h = first-below end ds i z (go (eqb (d .fir
     go : (b : Bool) → allBelow end (unless b (d .first) (firstGroups ds)) ≡ true → allBelow end (firstGroups ds) ≡ true
     go true h = h
     go false h = and-both (ltb (d .first) end) (allBelow end (firstGroups ds)) h .1
+
+-- a frame in use is one of those below a count from which on none is
+pub used-below : (count : ℕ) (ds : List Dirty) (i : ℕ) → length (firstGroups (drop count ds)) ≡ 0 → (getD ds i free .first ≡ 0 → ⊥) → i < count
+unfolding firstGroups
+used-below count [] i h n = absurd (n refl)
+used-below zero (d ∷ ds) zero h n = go (eqb (d .first) 0) refl h
+  where
+    go : (t : Bool) → eqb (d .first) 0 ≡ t → length (unless t (d .first) (firstGroups ds)) ≡ 0 → 0 < 0
+    go true e h = absurd (n (eqb-true _ _ e))
+    go false e h = absurd (omega arith)
+used-below zero (d ∷ ds) (suc i) h n = go (eqb (d .first) 0) h (used-below zero ds i)
+  where
+    go : (t : Bool) → length (unless t (d .first) (firstGroups ds)) ≡ 0 → (length (firstGroups ds) ≡ 0 → (getD ds i free .first ≡ 0 → ⊥) → i < 0) → suc i < 0
+    go true h ih = absurd (omega (arith, ih h n))
+    go false h ih = absurd (omega arith)
+used-below (suc count) (d ∷ ds) zero h n = omega arith
+used-below (suc count) (d ∷ ds) (suc i) h n = omega (arith, used-below count ds i h n)
+
+-- ---- a page's frame is free
+
+freed-none : (page : ℕ) (ds : List Dirty) → member page (dirtyNumbers ds) ≡ false → freed page ds ≡ ds
+unfolding freed dirtyNumbers
+freed-none page [] h = refl
+freed-none page (d ∷ ds) h = go (eqb (d .first) 0) h (freed-none page ds)
+  where
+    go : (b : Bool) → member page (unless b (d .page) (dirtyNumbers ds)) ≡ false → (member page (dirtyNumbers ds) ≡ false → freed page ds ≡ ds)
+        → cond (not b && eqb page (d .page)) free d ∷ freed page ds ≡ d ∷ ds
+    go true h ih = ap (λ (l : List Dirty). d ∷ l) (ih h)
+    go false h ih =
+        let o = or-false (eqb page (d .page)) (member page (dirtyNumbers ds)) h in
+        ap (λ (b : Bool). cond b free d ∷ freed page ds) (o .0) ∙ ap (λ (l : List Dirty). d ∷ l) (ih (o .1))
+
+freed-set : (page i : ℕ) (ds : List Dirty) → isOf page (getD ds i free) ≡ true → freed page ds ≡ freed page (set ds i free)
+unfolding freed
+freed-set page i [] h = refl
+freed-set page zero (d ∷ ds) h = ap (λ (b : Bool). cond b free d ∷ freed page ds) h
+freed-set page (suc i) (d ∷ ds) h = ap (λ (l : List Dirty). cond (isOf page d) free d ∷ l) (freed-set page i ds h)
+
+-- the one entry of the page is set free
+pub freed-is : (page i : ℕ) (ds : List Dirty) → distinct (dirtyNumbers ds) ≡ true → isOf page (getD ds i free) ≡ true → set ds i free ≡ freed page ds
+freed-is page i ds h o =
+    let both = and-both (not (eqb (getD ds i free .first) 0)) (eqb page (getD ds i free .page)) o in
+    let used : eqb (getD ds i free .first) 0 ≡ false = not-true _ (both .0) in
+    let own : page ≡ getD ds i free .page = eqb-true _ _ (both .1) in
+    sym (freed-none page (set ds i free) (ap (λ (p : ℕ). member p (dirtyNumbers (set ds i free))) own ∙ own-apart i ds h used)) ∙ sym (freed-set page i ds o)

@@ -21,7 +21,7 @@ use Rattle.promises.proofs.Soundness.{Sound, sound-of, and2}
 use Rattle.promises.proofs.SoundFacts.{length-dirty, keepFrom-dirty, distinct-dirty}
 use Rattle.promises.proofs.History.WalkStart.{Distinct, lookUp-head}
 use Rattle.table.specs.declared.Table.{Table}
-use Rattle.table.specs.Search.{free}
+use Rattle.promises.specs.States.{free}
 use Rattle.table.specs.Table.{emptyTable, Holds}
 pub use Rattle.table.specs.Table.{Each}
 use Rattle.promises.proofs.SameDirty.{same-count, same-keep}

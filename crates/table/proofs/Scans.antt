@@ -14,7 +14,7 @@ use Rattle.block.proofs.Tests.{by-cases}
 use Rattle.promises.specs.declared.Dirty.{Dirty}
 use Rattle.promises.specs.Contents.{unless}
 use Rattle.promises.specs.Sums.{firstGroups, smallest}
-use Rattle.table.specs.Search.{free}
+use Rattle.promises.specs.States.{free}
 
 -- the length of an array of structs in a struct, as owning the struct tells it: `search (needs, length-mapped)` finds the premise
 pub length-mapped : (X Y : Type 0) (f : X → Y) (l : List X) (n : ℕ) → length (map f l) ≡ n → length l ≡ n

@@ -9,14 +9,16 @@ use native.Mathlib.Omega.{arith}
 use lib.Dec.{eqb, ltb, leb}
 use lib.ListN.{length, take, drop, getD, set, replicate, length-append, length-map, length-set, length-replicate, replicate-append-replicate, drop-of-length-le, List·getD-append, List·getD-map}
 use lib.Seq.{drop-cons, take-at, drop-at, set-at, take-suc, take-length, length-take-le, set-append-left}
-use borrow.Author.Tests.{eq-eqb, ne-eqb, eqb-true, eqb-false, leb-true, leb-false}
+use borrow.Author.Tests.{lt-ltb, le-ltb, eq-eqb, ne-eqb, eqb-true, eqb-false, leb-true, leb-false}
 use Rattle.area.specs.Part.{splice}
+use Rattle.area.proofs.Parts.{either}
 use Rattle.block.proofs.Tests.{by-cases}
 use Rattle.promises.specs.declared.Dirty.{Dirty}
 use Rattle.promises.specs.Areas.{pageAt}
 use Rattle.promises.specs.Sums.{firstGroups, smallest}
 use Rattle.table.specs.declared.Table.{Table}
-use Rattle.table.specs.Search.{free, isFree, isOf, placeOf, entriesOf, seatOf}
+use Rattle.table.specs.Search.{isFree, placeOf, entriesOf, seatOf}
+use Rattle.promises.specs.States.{free, isOf}
 use Rattle.table.specs.Table.{Enters, Drops, withDirty}
 use Rattle.table.specs.Seats.{entryIn, dirtyIn, seated}
 use Rattle.table.proofs.Scans.{groups-more, groups-same, lower, not-lower}
@@ -30,9 +32,17 @@ map-set f (x ∷ l) (suc i) a = ap (λ (r : List _). f x ∷ r) (map-set f l i a
 
 -- ---- one seat
 
+-- below 65,536 it is free
+pub entry-below : (seat : ℕ) → seat < 65536 → entryIn seat ≡ free
+entry-below seat h = simp (lt-ltb seat 65536 h)
+
+pub entry-above : (seat : ℕ) → 65536 ≤ seat → entryIn seat ≡ record { page = seat % 65536; first = seat / 65536 }
+entry-above seat h = simp (le-ltb seat 65536 h)
+
 -- a page below 65,536 and its first group, as one number
-pub entry-of : (page group : ℕ) → page < 65536 → entryIn (group * 65536 + page) ≡ record { page = page; first = group }
-entry-of page group h = both ((group * 65536 + page) % 65536) ((group * 65536 + page) / 65536) (omega arith) (omega arith)
+pub entry-of : (page group : ℕ) → page < 65536 → 1 ≤ group → entryIn (group * 65536 + page) ≡ record { page = page; first = group }
+entry-of page group h one =
+    entry-above (group * 65536 + page) (omega arith) ∙ both ((group * 65536 + page) % 65536) ((group * 65536 + page) / 65536) (omega arith) (omega arith)
   where
     both : (p f : ℕ) → p ≡ page → f ≡ group → _≡_ {A = Dirty} (record { page = p; first = f }) (record { page = page; first = group })
     both p f e g = ap (λ (x : ℕ). record { page = x; first = f }) e ∙ ap (λ (x : ℕ). record { page = page; first = x }) g
@@ -43,14 +53,25 @@ free-below seat h = omega arith
 used-above : (seat : ℕ) → 65536 ≤ seat → seat / 65536 ≡ 0 → ⊥
 used-above seat h e = omega arith
 
+entry-first : (seat : ℕ) → entryIn seat .first ≡ seat / 65536
+entry-first seat =
+    either seat 65536
+    (λ h. ap (λ (d : Dirty). d .first) (entry-below seat h) ∙ sym (free-below seat h))
+    (λ h. ap (λ (d : Dirty). d .first) (entry-above seat h))
+
+-- a free entry is zero
+entry-zero : (seat : ℕ) → entryIn seat .first ≡ 0 → entryIn seat ≡ free
+entry-zero seat z = either seat 65536 (λ h. entry-below seat h) (λ h. absurd (used-above seat h (sym (entry-first seat) ∙ z)))
+
 -- the code's tests of a seat
 pub seat-of : (page seat : ℕ) (b : Bool) → (leb 65536 seat && eqb (seat % 65536) page) ≡ b → isOf page (entryIn seat) ≡ b
 seat-of page seat b e =
     by-cases (leb 65536 seat)
     (λ t. let f : (true && eqb (seat % 65536) page) ≡ b = rw t at e in
-    ap (λ (x : Bool). not x && eqb page (seat % 65536)) (ne-eqb (seat / 65536) 0 (used-above seat (leb-true _ _ t))) ∙ same ∙ f)
+    ap (isOf page) (entry-above seat (leb-true _ _ t))
+    ∙ ap (λ (x : Bool). not x && eqb page (seat % 65536)) (ne-eqb (seat / 65536) 0 (used-above seat (leb-true _ _ t))) ∙ same ∙ f)
     (λ t. let f : (false && eqb (seat % 65536) page) ≡ b = rw t at e in
-    ap (λ (x : Bool). not x && eqb page (seat % 65536)) (eq-eqb (seat / 65536) 0 (free-below seat (leb-false _ _ t))) ∙ f)
+    ap (isOf page) (entry-below seat (leb-false _ _ t)) ∙ f)
   where
     same : eqb page (seat % 65536) ≡ eqb (seat % 65536) page
     same =
@@ -59,10 +80,10 @@ seat-of page seat b e =
         (λ t. ne-eqb page (seat % 65536) (λ q. eqb-false (seat % 65536) page t (sym q)) ∙ sym t)
 
 pub seat-free-below : (seat : ℕ) → seat < 65536 → isFree (entryIn seat) ≡ true
-seat-free-below seat h = eq-eqb _ _ (free-below seat h)
+seat-free-below seat h = ap isFree (entry-below seat h)
 
 pub seat-used-above : (seat : ℕ) → 65536 ≤ seat → isFree (entryIn seat) ≡ false
-seat-used-above seat h = ne-eqb _ _ (used-above seat h)
+seat-used-above seat h = ap isFree (entry-above seat h) ∙ ne-eqb _ _ (used-above seat h)
 
 -- ---- searches among the seats
 
@@ -133,6 +154,18 @@ module _ (seats : List ℕ) where
         ap (λ (n : ℕ). record { count = n; full = full; dirty = set (dirtyIn seats) i (entryIn seat) }) (sym (length-set seats i seat))
         ∙ ap (λ (l : List Dirty). record { count = length (set seats i seat); full = full; dirty = l }) (sym (dirty-set seat))
 
+-- an entry that is free is zero
+zeroed : (xs : List ℕ) (n f : ℕ) → getD (map entryIn xs ++ replicate n free) f free .first ≡ 0 → getD (map entryIn xs ++ replicate n free) f free ≡ free
+zeroed [] zero f z = refl
+zeroed [] (suc n) zero z = refl
+zeroed [] (suc n) (suc f) z = zeroed [] n f z
+zeroed (x ∷ xs) n zero z = entry-zero x z
+zeroed (x ∷ xs) n (suc f) z = zeroed xs n f z
+
+pub free-zero : (seats : List ℕ) (f : ℕ) → getD (dirtyIn seats) f free .first ≡ 0 → getD (dirtyIn seats) f free ≡ free
+unfolding dirtyIn
+free-zero seats f z = zeroed seats (32 - length seats) f z
+
 -- ---- the seat that a page gets
 
 module _ (seats : List ℕ) (page i : ℕ) (e : i ≡ placeOf (isOf page) (map entryIn seats)) where
@@ -151,14 +184,14 @@ module _ (seats home frames : List ℕ) (i page group : ℕ) (h : i < length sea
   pub seat-entered-used : 65536 ≤ getD seats i 0 → Enters (seated false seats) home frames i page group (seated false seats) frames
   seat-entered-used u =
       enters-used (seated false seats) home frames i page group
-      (λ z. used-above (getD seats i 0) u (sym (ap (λ (d : Dirty). d .first) (entry-at seats i h)) ∙ z))
+      (λ z. used-above (getD seats i 0) u (sym (ap (λ (d : Dirty). d .first) (entry-at seats i h) ∙ entry-first (getD seats i 0)) ∙ z))
 
-  pub seat-entered-free : (frames′ : List ℕ) → page < 65536 → getD seats i 0 < 65536 → frames′ ≡ splice frames (i * 1024) 1024 (pageAt home page)
+  pub seat-entered-free : (frames′ : List ℕ) → page < 65536 → 1 ≤ group → getD seats i 0 < 65536 → frames′ ≡ splice frames (i * 1024) 1024 (pageAt home page)
       → Enters (seated false seats) home frames i page group (seated false (set seats i (group * 65536 + page))) frames′
-  seat-entered-free frames′ k u q =
+  seat-entered-free frames′ k one u q =
       subst (λ (t : Table). Enters (seated false seats) home frames i page group t frames′)
-      (ap (λ (d : Dirty). withDirty (seated false seats) (set (dirtyIn seats) i d)) (sym (entry-of page group k)) ∙ seated-set seats i h false (group * 65536 + page))
-      (enters-free (seated false seats) home frames i page group frames′ (ap (λ (d : Dirty). d .first) (entry-at seats i h) ∙ free-below (getD seats i 0) u) q)
+      (ap (λ (d : Dirty). withDirty (seated false seats) (set (dirtyIn seats) i d)) (sym (entry-of page group k one)) ∙ seated-set seats i h false (group * 65536 + page))
+      (enters-free (seated false seats) home frames i page group frames′ (ap (λ (d : Dirty). d .first) (entry-at seats i h) ∙ entry-first (getD seats i 0) ∙ free-below (getD seats i 0) u) q)
 
 -- ---- a page is dropped
 
@@ -182,7 +215,7 @@ module _ (seats : List ℕ) (i : ℕ) (h : i < length seats) where
   in-dirty = omega (arith, length-append (map entryIn seats) (replicate (32 - length seats) free), length-map seats entryIn)
 
   first-at : getD (dirtyIn seats) i free .first ≡ getD seats i 0 / 65536
-  first-at = ap (λ (d : Dirty). d .first) (entry-at seats i h)
+  first-at = ap (λ (d : Dirty). d .first) (entry-at seats i h) ∙ entry-first (getD seats i 0)
 
   pub count-used : 65536 ≤ getD seats i 0 → length (firstGroups (drop i (dirtyIn seats))) ≡ suc (length (firstGroups (drop (i + 1) (dirtyIn seats))))
   count-used u = ap length (groups-more (dirtyIn seats) i in-dirty (λ z. used-above (getD seats i 0) u (sym first-at ∙ z)))

@@ -1,23 +1,17 @@
 -- Searching the frames: the place of the first entry that passes a test, and the frame that a page gets.
 -- Assumes nothing.
 use Prim.Native.Nat.{ℕ, suc}
-use mathlib.Core.Bool.{Bool, cond, not, _&&_}
+use mathlib.Core.Bool.{Bool, cond}
 use mathlib.Core.List.{List, [], _∷_}
 use lib.ListN.{take}
 use lib.Dec.{eqb, ltb}
 use Rattle.promises.specs.declared.Dirty.{Dirty}
+use Rattle.promises.specs.States.{isOf}
 use Rattle.table.specs.declared.Table.{Table}
 
--- a frame that is not in use
-abbrev pub free : Dirty
-free = record { page = 0; first = 0 }
-
+-- a frame that holds no page
 abbrev pub isFree : Dirty → Bool
 isFree entry = eqb (entry .first) 0
-
--- an entry that is in use, for this page
-abbrev pub isOf : ℕ → Dirty → Bool
-isOf page entry = not (eqb (entry .first) 0) && eqb page (entry .page)
 
 -- the place of the first entry that passes a test; the length where none does
 unfoldable pub placeOf : (Dirty → Bool) → List Dirty → ℕ

@@ -15,7 +15,7 @@ use Rattle.promises.specs.Contents.{dirtyFrom}
 use Rattle.promises.specs.Sums.{firstGroups}
 use Rattle.promises.specs.Sound.{distinct, dirtyNumbers}
 use Rattle.table.specs.declared.Table.{Table}
-use Rattle.table.specs.Search.{free}
+use Rattle.promises.specs.States.{free}
 
 -- a table without a dirty page
 abbrev pub emptyTable : ℕ → Table
@@ -52,11 +52,17 @@ pub record Holds (table : Table) (frames : List ℕ) (entries : List DirtyPage) 
   pub entriesDistinct : distinct (pagesOf entries) ≡ true
   pub within : length (firstGroups (drop (table .count) (table .dirty))) ≡ 0
 
+-- a frame in use keeps its page and first group
+abbrev pub Keeps : Table → Table → Type 0
+Keeps table result = (frame : ℕ) → (getD (table .dirty) frame free .first ≡ 0 → ⊥) → getD (result .dirty) frame free ≡ getD (table .dirty) frame free
+
 -- what one committed update leaves of a table that held these dirty pages: it holds them with the update put over its page; or, where that
 -- makes more pages dirty than there are frames, it is full
 pub record Applies (table : Table) (home frames : List ℕ) (update : Update) (group : ℕ) (result : Table) (frames′ : List ℕ) : Type 0 where
   pub countIs : result .count ≡ table .count
   pub framesLong : length frames′ ≡ length frames
+  -- a page that has a frame keeps it
+  pub kept : Keeps table result
   -- nothing happens any more once it is full
   pub stays : table .full ≡ true → (result ≡ table) × (frames′ ≡ frames)
   pub fits : (entries : List DirtyPage) → table .full ≡ false → Holds table frames entries
@@ -75,6 +81,7 @@ pub record Drops (table : Table) (page : ℕ) (result : Table) : Type 0 where
 pub record AppliesAll (table : Table) (home frames : List ℕ) (updates : List Update) (group : ℕ) (result : Table) (frames′ : List ℕ) : Type 0 where
   pub countIs : result .count ≡ table .count
   pub framesLong : length frames′ ≡ length frames
+  pub kept : Keeps table result
   pub stays : table .full ≡ true → (result ≡ table) × (frames′ ≡ frames)
   pub fits : (entries : List DirtyPage) → table .full ≡ false → Holds table frames entries
       → length (applyAll group (pageAt home) updates entries) ≤ table .count

@@ -9,7 +9,8 @@ ghost use Prim.Native.Nat.{_+_, _*_, _≤_, _<_};
 ghost use lib.ListN.{length};
 ghost use Rattle.block.specs.Sizes.{pageSize, sequenceEnd};
 ghost use Rattle.promises.specs.Sums.{firstGroups, smallest};
-ghost use Rattle.table.specs.Search.{isFree, isOf, placeOf, seatOf};
+ghost use Rattle.table.specs.Search.{isFree, placeOf, seatOf};
+ghost use Rattle.promises.specs.States.{isOf};
 ghost use Rattle.table.specs.Table.{Enters, Applies, Drops};
 ghost use Rattle.table.specs.Seats.{entryIn, dirtyIn, seated};
 
@@ -55,7 +56,7 @@ fn seat(seats: &[u64], page: usize) -> usize
 
 // A free frame takes a page's bytes from home; a frame in use stays.
 fn enter(seats: &mut [u64], home: &[u8], frames: &mut [u8], i: usize, page: usize, group: u64)
-    requires { ⌜ (i < length (now seats)) × (length (now seats) ≤ 32) × (length (now frames) ≡ length (now seats) * pageSize) × (page * pageSize + pageSize ≤ length (now home)) × (page < 4096) × (group < sequenceEnd) ⌝ }
+    requires { ⌜ (i < length (now seats)) × (length (now seats) ≤ 32) × (length (now frames) ≡ length (now seats) * pageSize) × (page * pageSize + pageSize ≤ length (now home)) × (page < 4096) × (1 ≤ group) × (group < sequenceEnd) ⌝ }
     ensures { λ _. ⌜ Enters (seated false (now (seats .entry))) (now (home .entry)) (now (frames .entry)) i page group (seated false (now (seats .exit))) (now (frames .exit)) ⌝ }
 {
     let held = seats[i];
@@ -131,6 +132,19 @@ pub fn dirty_pages(seats: &[u64]) -> usize
     sum
 }
 
+// The entry that a seat stands for.
+fn entry(seat: u64) -> Dirty
+    ensures { λ r. ⌜ r ≡ entryIn seat ⌝ }
+{
+    if seat < 65536 {
+        return Dirty { page: 0, first: 0 };
+    }
+    Dirty {
+        page: (seat % 65536) as u16,
+        first: seat / 65536,
+    }
+}
+
 // The seats as a state's entries.
 pub fn entries(seats: &[u64]) -> [Dirty; 32]
     requires { ⌜ length (now seats) ≤ 32 ⌝ }
@@ -139,11 +153,7 @@ pub fn entries(seats: &[u64]) -> [Dirty; 32]
     let mut dirty = [Dirty { page: 0, first: 0 }; 32];
     let mut i = 0;
     while i < seats.len() {
-        let seat = seats[i];
-        dirty[i] = Dirty {
-            page: (seat % 65536) as u16,
-            first: seat / 65536,
-        };
+        dirty[i] = entry(seats[i]);
         i += 1;
     }
     dirty

@@ -11,13 +11,15 @@ use borrow.Author.Tests.{eq-eqb, ne-eqb}
 use Rattle.promises.specs.declared.State.{State}
 use Rattle.promises.specs.declared.Outcome.{Outcome}
 use Rattle.promises.specs.declared.LogOutcome.{LogOutcome}
-use Rattle.promises.specs.Answers.{refusalIn, logRefusalIn}
+use Rattle.promises.specs.Answers.{numberIn, Reply, refuses, accepts, answered, logAnswered}
 use Rattle.promises.specs.Sums.{waitingBlocks}
 use Rattle.promises.specs.LogStep.{logRefusalOf, LogSteps}
 use Rattle.promises.specs.CleanStep.{cleanRefusalOf, CleanSteps}
-use Rattle.promises.specs.Events.{World, Call, logStep, cleanStep, Reply, refuses, accepts, answered, logAnswered, Step, Logging, Cleaning}
+use Rattle.promises.specs.Events.{World, Call, logStep, cleanStep, Step, Logging, Cleaning}
 use Rattle.promises.specs.Claim.{promised}
 use Rattle.promises.proofs.Soundness.{Sound, sound-of}
+use Rattle.promises.proofs.Replies.{number-by}
+use Rattle.promises.proofs.Promised.{log-number}
 use Rattle.promises.proofs.RefusedCalls.{log-refused, clean-refused}
 use Rattle.promises.proofs.LogTurns.{log-turn, log-passed}
 use Rattle.promises.proofs.CleanTurns.{storesLeft, clean-turn, clean-passed}
@@ -41,10 +43,10 @@ turn-less left number w a w′ t = by-eq number 0
     (λ e. rw (eq-eqb number 0 e) (omega (arith, t .less e)))
     (λ n. rw (ne-eqb number 0 n) (omega (arith, t .same n)))
 
-pub log-turned : (w : World) (a : Reply) (w′ : World) (st : Logging w a w′) → Turn waitingBlocks (logRefusalIn (st .result .answer)) w a w′
+pub log-turned : (w : World) (a : Reply) (w′ : World) (st : Logging w a w′) → Turn waitingBlocks (numberIn (logAnswered (st .result .answer))) w a w′
 log-turned w a w′ st =
     let s = w .state in
-    let is : logRefusalIn (st .result .answer) ≡ logRefusalOf s (w .log) (w .home) (w .frames) (w .staging) = st .promise .refusal in
+    let is : numberIn (logAnswered (st .result .answer)) ≡ logRefusalOf s (w .log) (w .home) (w .frames) (w .staging) = log-number s (w .log) (w .home) (w .frames) (w .staging) (st .result) (st .log′) (st .frames′) (st .promise) in
     record {
       yes = λ e. log-turn w a w′ st (log-passed w (sym is ∙ e)) .accepted;
       no = λ n. log-refused w w′ a st (λ z. n (is ∙ z)) .0 ∙ ap refuses (sym is);
@@ -53,10 +55,10 @@ log-turned w a w′ st =
       same = λ n. ap (λ (x : World). waitingBlocks (x .state)) (log-refused w w′ a st (λ z. n (is ∙ z)) .1);
     }
 
-pub clean-turned : (w : World) (a : Reply) (w′ : World) (st : Cleaning w a w′) → Turn storesLeft (refusalIn (st .result .answer)) w a w′
+pub clean-turned : (w : World) (a : Reply) (w′ : World) (st : Cleaning w a w′) → Turn storesLeft (numberIn (answered (st .result .answer))) w a w′
 clean-turned w a w′ st =
     let s = w .state in
-    let is : refusalIn (st .result .answer) ≡ cleanRefusalOf s (w .log) (w .home) (w .frames) = st .promise .refusal in
+    let is : numberIn (answered (st .result .answer)) ≡ cleanRefusalOf s (w .log) (w .home) (w .frames) = number-by _ _ _ (st .promise .answerIs) refl in
     record {
       yes = λ e. clean-turn w a w′ st (clean-passed w (sym is ∙ e)) .accepted;
       no = λ n. clean-refused w w′ a st (λ z. n (is ∙ z)) .0 ∙ ap refuses (sym is);
@@ -94,7 +96,7 @@ turns-next call left calls number number′ w₀ w w′ a g z st t = record {
 
 -- ---- a turn of each loop: the call's promise, its number, and what is left
 module _ (s : State) (log home frames staging : List ℕ) (number : ℕ) (zero : number ≡ 0) (r : LogOutcome) (log′ frames′ : List ℕ)
-    (promise : LogSteps s log home frames staging r log′ frames′) (number′ : ℕ) (is : number′ ≡ logRefusalIn (r .answer)) where
+    (promise : LogSteps s log home frames staging r log′ frames′) (number′ : ℕ) (is : number′ ≡ numberIn (logAnswered (r .answer))) where
   abbrev logged : Logging (worldOf s log home frames staging) (logAnswered (r .answer)) (worldOf (r .state) log′ home frames′ staging)
   logged = record { result = r; log′ = log′; frames′ = frames′; promise = promise; replyIs = refl; after = refl }
 
@@ -115,13 +117,13 @@ module _ (s : State) (log home frames staging : List ℕ) (number : ℕ) (zero :
   abbrev cleaned : Cleaning (worldOf s log home frames staging) (answered (r .answer)) (worldOf (r .state) log′ home′ frames staging)
   cleaned = record { result = r; log′ = log′; home′ = home′; promise = promise; replyIs = refl; after = refl }
 
-  cleaned-turn : Turn storesLeft (refusalIn (r .answer)) (worldOf s log home frames staging) (answered (r .answer)) (worldOf (r .state) log′ home′ frames staging)
+  cleaned-turn : Turn storesLeft (numberIn (answered (r .answer))) (worldOf s log home frames staging) (answered (r .answer)) (worldOf (r .state) log′ home′ frames staging)
   cleaned-turn = clean-turned (worldOf s log home frames staging) (answered (r .answer)) (worldOf (r .state) log′ home′ frames staging) cleaned
 
   pub clean-next : (s₀ : State) (log₀ home₀ : List ℕ) (calls : ℕ) → Turns cleanStep storesLeft calls number (worldOf s₀ log₀ home₀ frames staging) (worldOf s log home frames staging)
-      → Turns cleanStep storesLeft (calls + 1) (refusalIn (r .answer)) (worldOf s₀ log₀ home₀ frames staging) (worldOf (r .state) log′ home′ frames staging)
-  clean-next s₀ log₀ home₀ calls g = turns-next cleanStep storesLeft calls number (refusalIn (r .answer)) (worldOf s₀ log₀ home₀ frames staging) (worldOf s log home frames staging) (worldOf (r .state) log′ home′ frames staging)
+      → Turns cleanStep storesLeft (calls + 1) (numberIn (answered (r .answer))) (worldOf s₀ log₀ home₀ frames staging) (worldOf (r .state) log′ home′ frames staging)
+  clean-next s₀ log₀ home₀ calls g = turns-next cleanStep storesLeft calls number (numberIn (answered (r .answer))) (worldOf s₀ log₀ home₀ frames staging) (worldOf s log home frames staging) (worldOf (r .state) log′ home′ frames staging)
       (answered (r .answer)) g zero cleaned cleaned-turn
 
-  pub clean-less : storesLeft (r .state) + oneWhileAccepted (refusalIn (r .answer)) < storesLeft s + oneWhileAccepted number
-  clean-less = rw (eq-eqb number 0 zero) (turn-less storesLeft (refusalIn (r .answer)) (worldOf s log home frames staging) (answered (r .answer)) (worldOf (r .state) log′ home′ frames staging) cleaned-turn)
+  pub clean-less : storesLeft (r .state) + oneWhileAccepted (numberIn (answered (r .answer))) < storesLeft s + oneWhileAccepted number
+  clean-less = rw (eq-eqb number 0 zero) (turn-less storesLeft (numberIn (answered (r .answer))) (worldOf s log home frames staging) (answered (r .answer)) (worldOf (r .state) log′ home′ frames staging) cleaned-turn)

@@ -7,9 +7,11 @@ use Rattle.promises.specs.Sums.{dirtyCount, waitingBlocks}
 use Rattle.promises.specs.LogStep.{logRefusalOf}
 use Rattle.promises.specs.CleanStep.{cleanRefusalOf}
 use Rattle.promises.specs.Begin.{beginRefusal}
-use Rattle.promises.specs.Events.{World, logStep, cleanStep, Reply, refuses, done, accepts, answered, Beginning, Logging, Cleaning}
+use Rattle.promises.specs.Events.{World, logStep, cleanStep, Beginning, Logging, Cleaning}
+use Rattle.promises.specs.Answers.{Reply, refuses, done, accepts, answered}
 use Rattle.promises.specs.Claim.{promised}
 use Rattle.promises.specs.Waiting.{Fitting}
+use Rattle.promises.proofs.Replies.{accepted-by}
 use Rattle.promises.proofs.Replies.{no-accept, same-refusal}
 use Rattle.promises.proofs.RefusedCalls.{begin-refused, log-refused, clean-refused}
 use Rattle.promises.proofs.LogTurns.{log-nothing}
@@ -136,7 +138,7 @@ module _ (w : World) (u : ℕ) (fit : Fitting w) (far : w .state .next + 4096 �
       let l = logged-out v v′ logged 10 st logs in
       let c = cleaned-out v′ v″ cleaned 10 (l .leads) cleans in
       record {
-        reply = last′ .replyIs ∙ ap answered (last′ .promise .answerIs (begin-passes (w .state .slots) (w .state .frames) (last + w .state .frames) (3 * w .state .frames) u v″ room (full .asks) (c .leads) (c .noneDirty)));
+        reply = last′ .replyIs ∙ accepted-by _ _ _ (last′ .promise .answerIs) (begin-passes (w .state .slots) (w .state .frames) (last + w .state .frames) (3 * w .state .frames) u v″ room (full .asks) (c .leads) (c .noneDirty));
         logs = l .count;
         cleans = c .count;
       }

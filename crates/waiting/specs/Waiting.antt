@@ -8,10 +8,10 @@ use mathlib.Core.List.{List, []}
 use Rattle.block.specs.Sizes.{sequenceEnd}
 use Rattle.promises.specs.declared.State.{State}
 use Rattle.promises.specs.declared.Answer.the-variants.{Done}
-use Rattle.promises.specs.Answers.{refusalIn}
+use Rattle.promises.specs.Answers.{Reply, refuses, accepts, numberIn, answered}
 use Rattle.promises.specs.Sums.{openOnes, waitingBlocks}
 use Rattle.promises.specs.Begin.{beginRefusal}
-use Rattle.promises.specs.Events.{World, Call, begin, logStep, cleanStep, Reply, refuses, accepts, answered}
+use Rattle.promises.specs.Events.{World, Call, begin, logStep, cleanStep}
 use Rattle.promises.specs.Claim.{Steps, promised}
 use Rattle.promises.specs.Waiting.{Fitting}
 use Rattle.waiting.specs.declared.Stopped.{Stopped}
@@ -55,12 +55,12 @@ pub record BeginsWaiting (world : World) (u : ℕ) (result : Waited) (world′ :
 -- Log steps until one is refused: the answer is its refusal
 abbrev pub LogsAll : State → List ℕ → List ℕ → List ℕ → List ℕ → Stopped → List ℕ → List ℕ → Type 0
 LogsAll state log home frames staging result log′ frames′ =
-    (refusalIn (result .answer) ≡ 0 → ⊥)
-    × Until promised logStep (result .count) (worldOf state log home frames staging) (refusalIn (result .answer)) (worldOf (result .state) log′ home frames′ staging)
+    (numberIn (answered (result .answer)) ≡ 0 → ⊥)
+    × Until promised logStep (result .count) (worldOf state log home frames staging) (numberIn (answered (result .answer))) (worldOf (result .state) log′ home frames′ staging)
 
 -- Clean steps until one is refused; they are lent no staging, so any will do
 abbrev pub CleansAll : State → List ℕ → List ℕ → List ℕ → Stopped → List ℕ → List ℕ → Type 0
 CleansAll state log home frames result log′ home′ =
-    (refusalIn (result .answer) ≡ 0 → ⊥)
+    (numberIn (answered (result .answer)) ≡ 0 → ⊥)
     × ((staging : List ℕ)
-    → Until promised cleanStep (result .count) (worldOf state log home frames staging) (refusalIn (result .answer)) (worldOf (result .state) log′ home′ frames staging))
+    → Until promised cleanStep (result .count) (worldOf state log home frames staging) (numberIn (answered (result .answer))) (worldOf (result .state) log′ home′ frames staging))

@@ -6,7 +6,7 @@ use promises::Logged;
 use promises::State;
 ghost use denote.Ref.{now};
 ghost use mathlib.Core.Path.{_≡_};
-ghost use Rattle.promises.specs.Answers.{refusalIn, logRefusalIn};
+ghost use Rattle.promises.specs.Answers.{numberIn, answered, logAnswered};
 ghost use Rattle.waiting.specs.Waiting.{worldOf, LogsAll, CleansAll, BeginsWaiting};
 
 // Where steps of one kind ended: the state, the refusal that ended them, and how many were accepted before it.
@@ -26,7 +26,7 @@ pub struct Waited {
 
 // Log step's answer without the ticket.
 fn without_ticket(answer: Logged) -> Answer
-    ensures { λ r. ⌜ refusalIn r ≡ logRefusalIn answer ⌝ }
+    ensures { λ r. ⌜ numberIn (answered r) ≡ numberIn (logAnswered answer) ⌝ }
 {
     match answer {
         Logged::Refused(refusal) => Answer::Refused(refusal),
@@ -37,7 +37,7 @@ fn without_ticket(answer: Logged) -> Answer
 
 // The number of an answer: 0 where the call was accepted, or the refusal's.
 fn number_of(answer: Answer) -> u64
-    ensures { λ r. ⌜ r ≡ refusalIn answer ⌝ }
+    ensures { λ r. ⌜ r ≡ numberIn (answered answer) ⌝ }
 {
     match answer {
         Answer::Refused(refusal) => script::refusal_number(refusal),

@@ -5,7 +5,7 @@ use mathlib.Core.Path.{_≡_, refl, sym, ap, _∙_}
 use mathlib.Core.Logic.{⊎-elim}
 use lib.ListN.{length, drop, set}
 use Rattle.promises.specs.Sums.{firstGroups, smallest}
-use Rattle.table.specs.Search.{free}
+use Rattle.promises.specs.States.{free}
 use Rattle.table.proofs.Scans.{length-mapped}
 use Rattle.cleaning.proofs.Choosing.{more-left, left-used, left-free, lower-but, not-lower-but, free-but, lowest-but}
 use borrow.Author.Needs.{needs}

@@ -4,7 +4,7 @@ use Prim.Native.Nat.{_≤_, _-_}
 use mathlib.Core.Path.{_≡_, refl, _∙_}
 use mathlib.Core.List.{map}
 use lib.ListN.{length, take, length-set}
-use Rattle.table.specs.Seats.{entryIn}
+use Rattle.table.specs.Seats.{entryIn, cleared}
 use Rattle.table.proofs.Scans.{length-mapped}
 use Rattle.logging.proofs.Packing.{pack-more, pack-end}
 use borrow.Author.Needs.{needs}
@@ -13,7 +13,7 @@ use Rattle.logging.proofs.pack.Statement.{statement}
 use Rattle.logging.proofs.pack.Tie as tie
 
 abbrev Inv-loop : tie.InvT-loop
-Inv-loop seats₀ dirty i₀ seats i = (i ≤ length seats₀) × (length seats ≡ length seats₀) × (map entryIn (take i seats) ≡ take i dirty)
+Inv-loop seats₀ dirty i₀ seats i = (i ≤ length seats₀) × (length seats ≡ length seats₀) × (map entryIn (take i seats) ≡ map cleared (take i dirty))
 
 abbrev μ-loop : tie.MeasureT-loop
 μ-loop seats₀ dirty i₀ seats i = length seats₀ - i

@@ -4,7 +4,7 @@ use mathlib.Core.Path.{_≡_, refl, sym, ap, _∙_}
 use mathlib.Core.List.{map}
 use Prim.Native.Nat.{ℕ}
 use lib.ListN.{length, take}
-use Rattle.table.specs.Seats.{entryIn, dirtyIn}
+use Rattle.table.specs.Seats.{entryIn, cleared, dirtyIn}
 use Rattle.logging.proofs.Blocks.{commit-stored}
 use Rattle.logging.proofs.Packing.{lent-long, seats-room, seats-back, seats-long, seats-few}
 use Rattle.logging.proofs.Applied.{commits-by}
@@ -22,8 +22,8 @@ module _ (c : tie.After-pack) where
   packed-long : length (c .pack .last .1 .0) ≡ start .args .state .frames
   packed-long = c .pack .ensures .0 ∙ lent-long (start .args .state .frames) (start .pre .frameCount)
 
-  packed-are : map entryIn (c .pack .last .1 .0) ≡ take (start .args .state .frames) (start .args .state .dirty)
-  packed-are = c .pack .ensures .1 ∙ ap (λ (n : ℕ). take n (start .args .state .dirty)) (lent-long (start .args .state .frames) (start .pre .frameCount))
+  packed-are : map entryIn (c .pack .last .1 .0) ≡ map cleared (take (start .args .state .frames) (start .args .state .dirty))
+  packed-are = c .pack .ensures .1 ∙ ap (λ (n : ℕ). map cleared (take n (start .args .state .dirty))) (lent-long (start .args .state .frames) (start .pre .frameCount))
 
 -- and with the group
 applied-long : (c : tie.After-apply-group) → length (c .apply-group .last .0) ≡ c .before .before .before .before .before .before .before .before .before .before .before .before .before .before .before .before .before .before .before .before .before .args .state .frames
@@ -90,9 +90,10 @@ same-length-2 c = search needs
 returns : tie.Need-returns
 returns c =
     let a = (c .before .before .before .before .before .before .before .before .before .before .before .before .before .before .before .before .before .before .before .before .before .before .before .before .before .before) .args in
+    let p = (c .before .before .before .before .before .before .before .before .before .before .before .before .before .before .before .before .before .before .before .before .before .before .before .before .before .before) .pre in
     let g = (c .before .before .before .before .before .before .before .before .before .before .before .before .before .before .before .before .before .before .before .before .before) .group-size .ensures in
     let long = packed-long (c .before .before .before .before .before .before .before .before .before .before) in
-    commits-by (a .state) (a .log .now) (a .home .now) (a .frames .now) (a .staging .now) _ _ _ ((c .before .before .before .before .before) .apply-group .last .0) _ ((c .before .before .before .before .before) .apply-group .result) (a .keep-from) _ g
+    commits-by (a .state) (a .log .now) (a .home .now) (a .frames .now) (a .staging .now) _ _ _ ((c .before .before .before .before .before) .apply-group .last .0) _ ((c .before .before .before .before .before) .apply-group .result) (a .keep-from) _ g (p .frameCount)
     (seats-long _ ((c .before .before .before .before .before .before .before .before .before .before) .pack .last .1 .0) _ long) (ap (map entryIn) (seats-back _ ((c .before .before .before .before .before .before .before .before .before .before) .pack .last .1 .0) _ long) ∙ packed-are (c .before .before .before .before .before .before .before .before .before .before))
     (commit-stored (a .state) (a .log .now) _ (a .keep-from) _ _ _ g refl ((c .before .before .before .before .before .before .before .before .before .before .before .before .before .before .before .before .before .before .before) .commit .ensures) ((c .before .before .before .before .before .before .before .before .before .before .before .before .before .before .before .before) .store .ensures))
     ((c .before .before .before .before .before) .apply-group .ensures)

@@ -9,7 +9,9 @@ use Rattle.promises.specs.declared.Dirty.{Dirty}
 use Rattle.promises.specs.Areas.{slotsIn, pagesIn, framesIn}
 use Rattle.table.specs.Seats.{dirtyIn}
 use Rattle.opening.specs.Findings.{foundOf}
-use Rattle.opening.specs.States.{idleState}
+use Rattle.promises.specs.Answers.{refuses}
+use Rattle.promises.specs.Open.{openedState}
+use Rattle.table.proofs.Seating.{length-dirty, free-zero}
 use Rattle.recovery.proofs.Changing.{fails, holds}
 use Rattle.opening.proofs.Answering.{Lengths, lengths-told, opens-lengths, refusal-range, opens-refused, next-fits, opens-accepted}
 use Rattle.opening.proofs.Lending.{lent-seats, lent-long, seats-room, seats-back, seats-long, seats-few}
@@ -73,7 +75,7 @@ returns-2 c =
     let fit = holds _ _ ((c .before .before .before .before .before .before .before .before .before .before .before .before .before .before .before .before) .lengths-fit .ensures) ((c .before .before .before .before .before .before .before .before .before .before .before .before .before .before .before) .if1 .left) in
     let f = (c .before .before .before .before .before .before .before .before .before .before .before .before) .read-log in
     let o = c .refused2 .ensures in
-    opens-refused (a .log .now) (a .home .now) (a .frames .now) (a .staging .now) _ _ fit (foundOf (f .result) (f .last .0)) _ (f .ensures) ((c .before .before) .if2 .taken) (o .0 ∙ (c .before) .refusal-of .ensures) (o .1) (o .2) (f .kept .1 .1 .1 .0)
+    opens-refused (a .log .now) (a .home .now) (a .frames .now) (a .staging .now) _ _ fit (foundOf (f .result) (f .last .0)) _ (f .ensures) ((c .before .before) .if2 .taken) (o .0 ∙ ap refuses ((c .before) .refusal-of .ensures)) (o .1) (o .2) (f .kept .1 .1 .1 .0)
     ((c .before .before .before .before .before .before) .clear-refused .ensures ∙ ap (λ (b : Bool). cond b ((c .before .before .before .before .before .before .before .before .before .before .before .before) .read-log .last .1 .1 .1 .0) (replicate (length ((c .before .before .before .before .before .before .before .before .before .before .before .before) .read-log .last .1 .1 .1 .0)) 0)) (ne-eqb _ _ ((c .before .before) .if2 .taken)))
 
 array-share-prefix-seats : tie.Need-array-share-prefix-seats
@@ -125,7 +127,8 @@ returns-3 c =
     let entered = (c .before .before) .entries .ensures ∙ ap dirtyIn (seats-back _ (f .last .0) _ long) in
     opens-accepted (a .log .now) (a .home .now) (a .frames .now) (a .staging .now) _ _ fit (foundOf (f .result) (f .last .0)) _ (f .ensures) ((c .before .before .before .before) .if2 .left) refl
     (c .idle .ensures
-    ∙ ap (λ (l : List Dirty). idleState (pagesIn (length (a .home .now))) (slotsIn (length (a .log .now))) (framesIn (length (a .frames .now))) (f .result .newest + 1) (f .result .stage .ticket) l) entered)
+    ∙ ap (λ (l : List Dirty). openedState (pagesIn (length (a .home .now))) (slotsIn (length (a .log .now))) (framesIn (length (a .frames .now))) (f .result .newest + 1) (f .result .stage .ticket) l) entered)
+    (length-dirty (f .last .0) (omega (arith, long, t .framesMost))) (free-zero (f .last .0))
     (f .kept .1 .1 .1 .0) ((c .before .before .before .before .before .before .before .before) .clear-refused .ensures ∙ ap (λ (b : Bool). cond b ((c .before .before .before .before .before .before .before .before .before .before .before .before .before .before) .read-log .last .1 .1 .1 .0) (replicate (length ((c .before .before .before .before .before .before .before .before .before .before .before .before .before .before) .read-log .last .1 .1 .1 .0)) 0)) (eq-eqb _ _ ((c .before .before .before .before) .if2 .left)))
 
 pub open-spec : {M : Type 1} → statement M

@@ -4,7 +4,7 @@ use Prim.Native.Nat.{ℕ}
 use mathlib.Core.Path.{_≡_, sym, _∙_, subst}
 use lib.ListN.{length}
 use Rattle.cleaning.proofs.Decision.{other-number}
-use Rattle.cleaning.proofs.Stepped.{answered}
+use Rattle.cleaning.proofs.Stepped.{answered-by}
 use native.Mathlib.Omega.{arith}
 use borrow.Author.Needs.{needs}
 use Rattle.store.proofs.clean_step.Statement.{statement}
@@ -40,7 +40,7 @@ same-length-2 c = search needs
 returns : tie.Need-returns
 returns c =
     let a = (c .before .before .before .before .before .before .before .before .before .before .before .before .before .before .before .before .before .before) .args in
-    answered (a .state) (a .log .now) (a .home .now) (a .frames .now) _ _ _ _ (c .answer-of .ensures ∙ (c .before .before .before .before .before .before .before .before .before .before .before .before) .clean-refusal .ensures) ((c .before .before .before .before .before .before) .clean-change .ensures)
+    answered-by (a .state) (a .log .now) (a .home .now) (a .frames .now) _ _ _ _ (c .answer-of .ensures ∙ (c .before .before .before .before .before .before .before .before .before .before .before .before) .clean-refusal .ensures) ((c .before .before .before .before .before .before) .clean-change .ensures)
 
 pub clean-step-spec : {M : Type 1} → statement M
 clean-step-spec =

@@ -1,6 +1,8 @@
 -- `format` meets its contract.
 -- Assumes nothing.
 use mathlib.Core.Path.{refl, sym, _∙_}
+use Rattle.promises.specs.Answers.{done}
+use Rattle.promises.proofs.Replies.{replied-accepted}
 use Rattle.queueing.proofs.Refusals.{format-refused}
 use borrow.Author.Needs.{needs}
 use Rattle.store.proofs.format.Statement.{statement}
@@ -25,7 +27,7 @@ same-length c = search needs
 returns-2 : tie.Need-returns-2
 returns-2 c =
     let accepted = sym (c .before .before .before .before .before .format-refusal .ensures .0) ∙ c .before .before .before .before .if1 .left in
-    record { refusal = sym accepted; refused = λ n. absurd (n accepted); accepted = λ z. (refl, c .before .before .clear .ensures) }
+    record { answerIs = sym (replied-accepted _ done accepted); refused = λ n. absurd (n accepted); accepted = λ z. c .before .before .clear .ensures }
 
 pub format-spec : {M : Type 1} → statement M
 format-spec =

@@ -9,10 +9,14 @@ use Rattle.stepping.proofs.Refused.{log-refused}
 use Rattle.logging.specs.Logging.{Ready}
 use Rattle.logging.proofs.Decision.{accepted, ready, ready-alone, held-within, kept-from}
 use Rattle.logging.proofs.Stepped.{update-steps, commit-steps}
+use Rattle.table.proofs.Scans.{length-mapped}
 use native.Mathlib.Omega.{arith}
 use borrow.Author.Needs.{needs}
 use Rattle.store.proofs.log_step.Statement.{statement}
 use Rattle.store.proofs.log_step.Tie as tie
+
+dirty-long : (c : tie.Start) → length (c .args .state .dirty) ≡ 32
+dirty-long c = search (needs, length-mapped)
 
 module _ (c : tie.Else1) where
   abbrev start : tie.Start
@@ -105,7 +109,7 @@ returns-3 : tie.Need-returns-3
 returns-3 c =
     let a = (c .before .before .before .before .before .before .before .before .before .before .before .before .before .before .before .before .before .before .before .before .before .before .before .before .before .before .before .before) .args in
     let g = (c .before .before .before .before .before .before .before .before .before .before .before .before .before .before .before .before .before) .group-size .ensures in
-    commit-steps (a .state) (a .log .now) (a .home .now) (a .frames .now) (a .staging .now) (none-at (c .before .before .before .before .before .before .before .before .before .before .before .before .before .before .before .before .before .before .before .before)) _ (kept-from (a .state) _ (sums-at (c .before .before .before .before .before .before .before .before .before .before .before .before .before .before .before .before .before .before .before .before))) _ _ _ _ _ _ _ g
+    commit-steps (a .state) (a .log .now) (a .home .now) (a .frames .now) (a .staging .now) (none-at (c .before .before .before .before .before .before .before .before .before .before .before .before .before .before .before .before .before .before .before .before)) _ (kept-from (a .state) _ (sums-at (c .before .before .before .before .before .before .before .before .before .before .before .before .before .before .before .before .before .before .before .before))) _ _ _ _ _ _ _ (dirty-long (c .before .before .before .before .before .before .before .before .before .before .before .before .before .before .before .before .before .before .before .before .before .before .before .before .before .before .before .before)) g
     ((c .before .before .before .before .before) .staged-shifted .ensures) ((c .before .before .before .before) .groups-shifted .ensures) ((c .before .before .before) .cleaning-left .ensures)
     (omega (arith, g, (c .before .before .before .before .before .before .before .before .before .before .before .before .before .before .before) .if2 .left)) ((c .before .before .before .before .before .before .before .before .before .before .before .before) .store-commit .ensures)
 

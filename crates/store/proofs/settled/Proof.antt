@@ -1,7 +1,9 @@
 -- `settled` meets its contract.
 -- Assumes nothing.
-use mathlib.Core.Path.{sym, _∙_}
+use mathlib.Core.Path.{sym, ap, _∙_}
 use borrow.Author.Tests.{le-leb, lt-leb}
+use Rattle.promises.specs.Answers.{says}
+use Rattle.promises.proofs.Replies.{replied-accepted}
 use Rattle.queueing.proofs.Refusals.{settled-refused}
 use borrow.Author.Needs.{needs}
 use Rattle.store.proofs.settled.Statement.{statement}
@@ -22,10 +24,14 @@ returns c =
     settled-refused (c .refusal-of .result) ((c .before .before) .settled-refusal .result) (c .refusal-of .ensures) ((c .before) .if1 .taken) (args .state) (args .ticket) ((c .before .before) .settled-refusal .ensures .0)
 
 returns-2 : tie.Need-returns-2
-returns-2 c = record { refusal = sym ((c .before .before) .if1 .left) ∙ (c .before .before .before) .settled-refusal .ensures .0; answerIs = λ z. simp (le-leb _ _ (c .if2 .taken)) }
+returns-2 c =
+    let accepted = sym ((c .before .before .before) .settled-refusal .ensures .0) ∙ (c .before .before) .if1 .left in
+    record { answerIs = sym (replied-accepted _ _ accepted ∙ ap says (le-leb _ _ (c .if2 .taken))) }
 
 returns-3 : tie.Need-returns-3
-returns-3 c = record { refusal = sym ((c .before .before) .if1 .left) ∙ (c .before .before .before) .settled-refusal .ensures .0; answerIs = λ z. simp (lt-leb _ _ (c .if2 .left)) }
+returns-3 c =
+    let accepted = sym ((c .before .before .before) .settled-refusal .ensures .0) ∙ (c .before .before) .if1 .left in
+    record { answerIs = sym (replied-accepted _ _ accepted ∙ ap says (lt-leb _ _ (c .if2 .left))) }
 
 pub settled-spec : {M : Type 1} → statement M
 settled-spec =

@@ -6,7 +6,7 @@ use mathlib.Core.List.{List, []}
 use lib.ListN.{length}
 use borrow.Author.Needs.{needs}
 use native.Mathlib.Omega.{arith}
-use Rattle.promises.specs.Answers.{refusalIn}
+use Rattle.promises.specs.Answers.{numberIn, answered}
 use Rattle.promises.specs.Events.{cleanStep}
 use Rattle.promises.proofs.CleanTurns.{storesLeft}
 use Rattle.waiting.specs.Waiting.{worldOf}
@@ -17,10 +17,10 @@ use Rattle.waiting.proofs.clean_all.Tie as tie
 abbrev Inv-loop : tie.InvT-loop
 Inv-loop log₀ home₀ frames after₀ answer₀ calls₀ log home after answer calls =
     (length log ≡ length log₀) × (length home ≡ length home₀)
-    × ((staging : List ℕ) → Turns cleanStep storesLeft calls (refusalIn answer) (worldOf after₀ log₀ home₀ frames staging) (worldOf after log home frames staging))
+    × ((staging : List ℕ) → Turns cleanStep storesLeft calls (numberIn (answered answer)) (worldOf after₀ log₀ home₀ frames staging) (worldOf after log home frames staging))
 
 abbrev μ-loop : tie.MeasureT-loop
-μ-loop log₀ home₀ frames after₀ answer₀ calls₀ log home after answer calls = storesLeft after + oneWhileAccepted (refusalIn answer)
+μ-loop log₀ home₀ frames after₀ answer₀ calls₀ log home after answer calls = storesLeft after + oneWhileAccepted (numberIn (answered answer))
 
 loop-holds : tie.Need-loop-holds Inv-loop μ-loop
 loop-holds c = (refl, refl, λ staging. turns-none cleanStep storesLeft _)
@@ -33,7 +33,7 @@ clean-step-requires c κs = search needs
 
 add-calls : tie.Need-add-calls Inv-loop μ-loop
 add-calls c =
-    let few : (c .before .before .before .before .before .before .before .before .before .before) .loop .calls ≤ 1024 = few-calls cleanStep storesLeft ((c .before .before .before .before .before .before .before .before .before .before) .loop .calls) (refusalIn ((c .before .before .before .before .before .before .before .before .before .before) .loop .answer)) _ _ ((c .before .before .before .before .before .before .before .before .before .before) .loop .inv .2 []) (sym ((c .before .before .before .before .before .before .before .before .before) .number-of .ensures) ∙ (c .before .before .before .before .before .before .before .before) .if1 .taken) in
+    let few : (c .before .before .before .before .before .before .before .before .before .before) .loop .calls ≤ 1024 = few-calls cleanStep storesLeft ((c .before .before .before .before .before .before .before .before .before .before) .loop .calls) (numberIn (answered ((c .before .before .before .before .before .before .before .before .before .before) .loop .answer))) _ _ ((c .before .before .before .before .before .before .before .before .before .before) .loop .inv .2 []) (sym ((c .before .before .before .before .before .before .before .before .before) .number-of .ensures) ∙ (c .before .before .before .before .before .before .before .before) .if1 .taken) in
     omega (arith, few)
 
 loop-less : tie.Need-loop-less Inv-loop μ-loop

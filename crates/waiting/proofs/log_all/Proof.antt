@@ -5,7 +5,7 @@ use Prim.Native.Nat.{_+_, _≤_}
 use lib.ListN.{length}
 use borrow.Author.Needs.{needs}
 use native.Mathlib.Omega.{arith}
-use Rattle.promises.specs.Answers.{refusalIn}
+use Rattle.promises.specs.Answers.{numberIn, answered}
 use Rattle.promises.specs.Sums.{waitingBlocks}
 use Rattle.promises.specs.Events.{logStep}
 use Rattle.waiting.specs.Waiting.{worldOf}
@@ -16,10 +16,10 @@ use Rattle.waiting.proofs.log_all.Tie as tie
 abbrev Inv-loop : tie.InvT-loop
 Inv-loop log₀ home frames₀ staging after₀ answer₀ calls₀ log frames after answer calls =
     (length log ≡ length log₀) × (length frames ≡ length frames₀)
-    × Turns logStep waitingBlocks calls (refusalIn answer) (worldOf after₀ log₀ home frames₀ staging) (worldOf after log home frames staging)
+    × Turns logStep waitingBlocks calls (numberIn (answered answer)) (worldOf after₀ log₀ home frames₀ staging) (worldOf after log home frames staging)
 
 abbrev μ-loop : tie.MeasureT-loop
-μ-loop log₀ home frames₀ staging after₀ answer₀ calls₀ log frames after answer calls = waitingBlocks after + oneWhileAccepted (refusalIn answer)
+μ-loop log₀ home frames₀ staging after₀ answer₀ calls₀ log frames after answer calls = waitingBlocks after + oneWhileAccepted (numberIn (answered answer))
 
 loop-holds : tie.Need-loop-holds Inv-loop μ-loop
 loop-holds c = (refl, refl, turns-none logStep waitingBlocks _)
@@ -35,7 +35,7 @@ without-ticket-requires c κs = search needs
 
 add-calls : tie.Need-add-calls Inv-loop μ-loop
 add-calls c =
-    let few : (c .before .before .before .before .before .before .before .before .before .before .before) .loop .calls ≤ 1024 = few-calls logStep waitingBlocks ((c .before .before .before .before .before .before .before .before .before .before .before) .loop .calls) (refusalIn ((c .before .before .before .before .before .before .before .before .before .before .before) .loop .answer)) _ _ ((c .before .before .before .before .before .before .before .before .before .before .before) .loop .inv .2) (sym ((c .before .before .before .before .before .before .before .before .before .before) .number-of .ensures) ∙ (c .before .before .before .before .before .before .before .before .before) .if1 .taken) in
+    let few : (c .before .before .before .before .before .before .before .before .before .before .before) .loop .calls ≤ 1024 = few-calls logStep waitingBlocks ((c .before .before .before .before .before .before .before .before .before .before .before) .loop .calls) (numberIn (answered ((c .before .before .before .before .before .before .before .before .before .before .before) .loop .answer))) _ _ ((c .before .before .before .before .before .before .before .before .before .before .before) .loop .inv .2) (sym ((c .before .before .before .before .before .before .before .before .before .before) .number-of .ensures) ∙ (c .before .before .before .before .before .before .before .before .before) .if1 .taken) in
     omega (arith, few)
 
 loop-less : tie.Need-loop-less Inv-loop μ-loop

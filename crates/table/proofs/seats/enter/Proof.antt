@@ -42,7 +42,7 @@ same-length-2 c = search needs
 returns : tie.Need-returns
 returns c =
     let a = (c .before .before .before .before .before .before .before .before .before) .args in
-    seat-entered-free (a .seats .now) (a .home .now) (a .frames .now) (a .i) (a .page) (a .group) (omega arith) _ (omega arith) ((c .before .before .before .before) .if1 .taken) ((c .before .before) .copy-part .ensures)
+    seat-entered-free (a .seats .now) (a .home .now) (a .frames .now) (a .i) (a .page) (a .group) (omega arith) _ (omega arith) (omega arith) ((c .before .before .before .before) .if1 .taken) ((c .before .before) .copy-part .ensures)
 
 returns-2 : tie.Need-returns-2
 returns-2 c =

@@ -1,7 +1,10 @@
 -- `table::seats::entries` meets its contract: the seats from index i on are left to set.
 -- Assumes nothing.
-use Prim.Native.Nat.{_≤_, _-_}
-use lib.ListN.{length}
+use mathlib.Core.Path.{_≡_, sym, subst}
+use mathlib.Core.List.{List}
+use Prim.Native.Nat.{_+_, _≤_, _-_}
+use lib.ListN.{length, set}
+use Rattle.promises.specs.declared.Dirty.{Dirty}
 use Rattle.table.proofs.Seating.{Filled, filled-start, filled-more, filled-end}
 use borrow.Author.Needs.{needs}
 use native.Mathlib.Omega.{arith}
@@ -15,16 +18,16 @@ abbrev μ-loop : tie.MeasureT-loop
 μ-loop seats dirty₀ i₀ dirty i = length seats - i
 
 loop-holds : tie.Need-loop-holds Inv-loop μ-loop
-loop-holds c = (search needs, filled-start (c .args .seats .now) (c .pre))
+loop-holds c = (search needs, filled-start (c .before .args .seats .now) (c .before .pre))
 
-mul-seat : tie.Need-mul-seat Inv-loop μ-loop
-mul-seat c = search needs
+mul-entry : tie.Need-mul-entry Inv-loop μ-loop
+mul-entry c = search needs
 
-shared-slice-read-seat : tie.Need-shared-slice-read-seat Inv-loop μ-loop
-shared-slice-read-seat c = search needs
+shared-slice-read-entry : tie.Need-shared-slice-read-entry Inv-loop μ-loop
+shared-slice-read-entry c = search needs
 
-cast-t10 : tie.Need-cast-t10 Inv-loop μ-loop
-cast-t10 c = search needs
+entry-requires : tie.Need-entry-requires Inv-loop μ-loop
+entry-requires c κs = search needs
 
 mul-dirty : tie.Need-mul-dirty Inv-loop μ-loop
 mul-dirty c = search needs
@@ -40,13 +43,16 @@ loop-less c = search needs
 
 loop-again : tie.Need-loop-again Inv-loop μ-loop
 loop-again c =
-    let a = (c .before .before .before) .args in
-    let l = (c .before .before) .loop in
-    (omega arith, filled-more (a .seats .now) (l .i) (l .dirty) (omega arith) ((c .before .before .before) .pre) (l .inv .1))
+    let a = (c .before .before .before .before .before) .args in
+    let l = (c .before .before .before) .loop in (
+      omega arith,
+      subst (λ (d : Dirty). Filled (a .seats .now) (l .i + 1) (set (l .dirty) (l .i) d)) (sym (c .entry .ensures))
+          (filled-more (a .seats .now) (l .i) (l .dirty) (omega arith) ((c .before .before .before .before .before) .pre) (l .inv .1)),
+    )
 
 returns : tie.Need-returns Inv-loop μ-loop
 returns c =
-    let a = (c .before .before) .args in
+    let a = (c .before .before .before) .args in
     let l = (c .before) .loop in
     filled-end (a .seats .now) (l .i) (l .dirty) (omega arith) (l .inv .1)
 
@@ -57,9 +63,9 @@ entries-spec =
     Inv-loop
     μ-loop
     loop-holds
-    mul-seat
-    shared-slice-read-seat
-    cast-t10
+    mul-entry
+    shared-slice-read-entry
+    entry-requires
     mul-dirty
     array-set-from-dirty
     add-i

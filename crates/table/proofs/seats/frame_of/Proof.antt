@@ -5,7 +5,8 @@ use mathlib.Core.Path.{_≡_}
 use mathlib.Core.Bool.{true, false}
 use mathlib.Core.List.{map}
 use lib.ListN.{length, drop, getD}
-use Rattle.table.specs.Search.{isOf, placeOf}
+use Rattle.table.specs.Search.{placeOf}
+use Rattle.promises.specs.States.{isOf}
 use Rattle.table.specs.Seats.{entryIn}
 use Rattle.table.proofs.Seating.{seat-of, seek-hit, seek-miss, seek-end}
 use borrow.Author.Needs.{needs}
