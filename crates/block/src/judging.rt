@@ -228,6 +228,6 @@ pub fn valid(slot: &[u8], block: Block, slots: u64, pages: usize, place: u64) ->
         return false;
     }
     let kind = block.kind;
-    let fields = writing::fields_of(kind);
-    laid_out(slot, block, fields.length)
+    let count = writing::length_of(kind);
+    laid_out(slot, block, count)
 }

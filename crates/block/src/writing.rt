@@ -9,7 +9,7 @@ ghost use Prim.Native.Nat.{_≤_};
 ghost use lib.ListN.{length};
 ghost use lib.Seq.{sets};
 ghost use Rattle.block.specs.Sizes.{blockSize, newBytesMost};
-ghost use Rattle.block.specs.Kind.{fieldsOf};
+ghost use Rattle.block.specs.Kind.{fieldsOf, lengthOf};
 ghost use Rattle.block.specs.Layout.{middle, header, layout};
 
 // Where the new bytes start, and where the check does.
@@ -48,6 +48,22 @@ pub fn fields_of(kind: Kind) -> Fields
             offset: 0,
             length: 0,
         },
+    }
+}
+
+// How many new bytes a block of a kind carries.
+pub fn length_of(kind: Kind) -> usize
+    ensures { λ r. ⌜ r ≡ lengthOf kind ⌝ }
+{
+    match kind {
+        Kind::Update {
+            index,
+            page,
+            offset,
+            length,
+        } => length,
+        Kind::Commit { updates } => 0,
+        Kind::Clean { page } => 0,
     }
 }
 
