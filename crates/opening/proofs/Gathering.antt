@@ -1,26 +1,25 @@
 -- The slots that the scan noted give the blocks that the paper's opening gathers, or the lowest missing one, or a damaged end.
 -- Assumes nothing.
 use mathlib.Core.Path.{_≡_, refl, sym, ap, _∙_, subst}
-use mathlib.Core.Bool.{Bool, true, false, cond, _&&_}
+use mathlib.Core.Bool.{Bool, true, false, cond}
 use mathlib.Core.List.{List, []}
 use Prim.Native.Nat.{ℕ, zero, suc, _+_, _-_, _≤_, _<_}
 use native.Mathlib.Omega.{arith}
 use native.Mathlib.Nat.{mod-lt}
 use native.Mathlib.Decide.{ℕ-discrete}
-use lib.Dec.{eqb}
 use lib.ListN.{length, getD}
-use borrow.Author.Tests.{eqb-true, eq-eqb, ne-eqb}
+use borrow.Author.Tests.{eq-eqb, ne-eqb}
 use Rattle.area.proofs.Parts.{either}
 use Rattle.block.specs.Legal.{legal, slotOf}
-use Rattle.block.specs.Layout.{layout}
-use Rattle.block.specs.Kind.{lengthOf}
-use Rattle.block.specs.Slot.{allZero, same, blockAt, newBytesAt, valid as validBytes, judged, pickJudged}
+use Rattle.block.specs.Slot.{blockAt, judged}
+use Rattle.block.specs.declared.Block.{Block}
+use Rattle.block.specs.declared.Judged.{Judged}
 use Rattle.block.specs.declared.Judged.the-variants.{Unused, Damaged, Valid}
+use Rattle.block.proofs.ReadBack.{Holds, valid-holds}
 use Rattle.promises.specs.Areas.{pageAt, slotBytes, slotsIn, pagesIn}
 use Rattle.promises.specs.Blocks.{LogBlock, Slot, unused, damaged, valid, kindIn, slotIn, slotAt, slotsOf}
 use Rattle.promises.specs.Newest.{sequenceIn, newest, keepIn, keepOf, Gathered, missing, blocks, withBlock, blockIn, gather, allUnused, isDamaged, endDamaged, endTested, gathered}
 use Rattle.promises.specs.Walk.{stops, walkFrom, walkGathered, startWith, believed, finding}
-use Rattle.promises.proofs.Soundness.{and-both}
 use Rattle.promises.proofs.Slots.{get-slot, no-slot}
 use Rattle.promises.proofs.History.Ring.{newest-at}
 use Rattle.promises.proofs.Gathered.{unused-newest, gathered-fresh, gathered-damaged, gathered-from, end-missing, end-whole}
@@ -39,27 +38,25 @@ record Holding (N P : ℕ) (log : List ℕ) (j q : ℕ) : Type 0 where
   placeIs : slotOf N q ≡ j
 
 holding : (N P : ℕ) (log : List ℕ) (j q : ℕ) → (q ≡ 0 → ⊥) → sequenceIn (slotAt N P log j) ≡ q → Holding N P log j q
-unfolding slotAt judged validBytes blockIs
-holding N P log j q n e = go (allZero bytes) refl (validBytes N P j bytes (blockAt bytes)) refl e
+unfolding slotAt blockIs
+holding N P log j q n e = go (judged N P j bytes) refl e
   where
     bytes : List ℕ
     bytes = slotBytes log j
 
-    go : (z : Bool) → allZero bytes ≡ z → (t : Bool) → validBytes N P j bytes (blockAt bytes) ≡ t
-        → sequenceIn (slotIn (pickJudged z Unused (pickJudged t (Valid (blockAt bytes)) Damaged)) bytes) ≡ q → Holding N P log j q
-    go true ez t et h = absurd (n (sym h))
-    go false ez false et h = absurd (n (sym h))
-    go false ez true et h =
-        let b = and-both (legal N P (blockAt bytes) && eqb (slotOf N (blockAt bytes .sequence)) j) (same bytes (layout (blockAt bytes) (newBytesAt bytes (lengthOf (blockAt bytes .kind))))) et in
-        let a = and-both (legal N P (blockAt bytes)) (eqb (slotOf N (blockAt bytes .sequence)) j) (b .0) in
+    go : (found : Judged) → judged N P j bytes ≡ found → sequenceIn (slotIn found bytes) ≡ q → Holding N P log j q
+    go Unused f h = absurd (n (sym h))
+    go Damaged f h = absurd (n (sym h))
+    go (Valid block) f h =
+        let held : Holds N P j bytes block = valid-holds N P j bytes block f in
+        let s : blockAt bytes .sequence ≡ q = ap (λ (b : Block). b .sequence) (held .told) ∙ h in
         record {
           slotIs =
-              ap (λ (z : Bool). slotIn (pickJudged z Unused (pickJudged (validBytes N P j bytes (blockAt bytes)) (Valid (blockAt bytes)) Damaged)) bytes) ez
-              ∙ ap (λ (t : Bool). slotIn (pickJudged t (Valid (blockAt bytes)) Damaged) bytes) et
-              ∙ ap (λ (x : ℕ). valid x (blockIs bytes)) h;
-          rules = a .0;
-          sequenceIs = h;
-          placeIs = ap (slotOf N) (sym h) ∙ eqb-true _ _ (a .1);
+              ap (λ (found : Judged). slotIn found bytes) (f ∙ ap Valid (sym (held .told)))
+              ∙ ap (λ (x : ℕ). valid x (blockIs bytes)) s;
+          rules = ap (legal N P) (held .told) ∙ held .is-legal;
+          sequenceIs = s;
+          placeIs = ap (slotOf N) (sym h) ∙ held .in-slot;
         }
 
 -- ---- the blocks from keep-from on
