@@ -5,12 +5,10 @@ use libc::STDOUT_FILENO;
 use promises::Dirty;
 use promises::OpenOutcome;
 use promises::Opened;
-use promises::Refusal;
 use promises::State;
 ghost use mathlib.Core.Path.{_≡_};
 ghost use Prim.Native.Nat.{_≤_, _<_};
 ghost use lib.ListN.{length};
-ghost use Rattle.promises.specs.Answers.{numberOf};
 
 // Writes a text.
 fn word(text: &[u8]) {
@@ -21,25 +19,6 @@ fn word(text: &[u8]) {
 fn labelled(text: &[u8], number: u64) {
     word(text);
     io::print_decimal(STDOUT_FILENO, number);
-}
-
-// The paper's number of a refusal.
-fn number_of(refusal: Refusal) -> u64
-    ensures { λ r. ⌜ r ≡ numberOf refusal ⌝ }
-{
-    match refusal {
-        Refusal::WrongLength => 1,
-        Refusal::NotSound => 2,
-        Refusal::OutOfRange => 3,
-        Refusal::WrongMoment => 4,
-        Refusal::Full => 5,
-        Refusal::SequencesUsedUp => 6,
-        Refusal::LogDamaged => 7,
-        Refusal::LogOutOfOrder => 8,
-        Refusal::TooFewFrames => 9,
-        Refusal::NothingToDo => 10,
-        Refusal::HeldBack => 11,
-    }
 }
 
 // 1 for a frame in use, 0 for a free one.
@@ -75,7 +54,7 @@ fn show(outcome: OpenOutcome, byte: u64) {
     let answer = outcome.answer;
     match answer {
         Opened::Refused(refusal, place) => {
-            labelled(b"refused ", number_of(refusal));
+            labelled(b"refused ", refusal.number());
             labelled(b" at ", place);
             labelled(b" frames ", byte);
         }

@@ -1,5 +1,9 @@
-// The page store's state and the answers of its calls, as declared types. What each call promises stands in specs/, one file to a
-// call; demand 3 is proved from these promises alone in proofs/Demand3.antt. No call is written here.
+// The page store's state and the answers of its calls, as declared types, with the all-zero state and the number of a refusal. What each
+// call promises stands in specs/, one file to a call; demand 3 is proved from these promises alone in proofs/Demand3.antt. No call is
+// written here.
+ghost use mathlib.Core.Path.{_≡_};
+ghost use Rattle.promises.specs.Answers.{numberOf};
+ghost use Rattle.promises.specs.Contents.{allZeroState};
 
 // What a frame holds: a dirty page and its first group. First group 0: the frame is free.
 pub struct Dirty {
@@ -50,6 +54,37 @@ pub struct State {
     pub cleaning: Cleaning,
 }
 
+impl State {
+    // The all-zero state.
+    pub fn all_zero() -> State
+        ensures { λ r. ⌜ r ≡ allZeroState ⌝ }
+    {
+        let dirty = [Dirty { page: 0, first: 0 }; 32];
+        let staged = [Staged {
+            page: 0,
+            offset: 0,
+            length: 0,
+            area: 0,
+        }; 32];
+        let groups = [0u8; 32];
+        State {
+            pages: 0,
+            slots: 0,
+            frames: 0,
+            next: 0,
+            ticket: 0,
+            dirty,
+            staged,
+            groups,
+            queued: 0,
+            stored: 0,
+            reserved: 0,
+            described: 0,
+            cleaning: Cleaning::Idle,
+        }
+    }
+}
+
 // Why a call is refused: the paper's refusals 1 to 11, in its order.
 pub enum Refusal {
     WrongLength,
@@ -63,6 +98,27 @@ pub enum Refusal {
     TooFewFrames,
     NothingToDo,
     HeldBack,
+}
+
+impl Refusal {
+    // The paper's number of a refusal.
+    pub fn number(self) -> u64
+        ensures { λ r. ⌜ r ≡ numberOf self ⌝ }
+    {
+        match self {
+            Refusal::WrongLength => 1,
+            Refusal::NotSound => 2,
+            Refusal::OutOfRange => 3,
+            Refusal::WrongMoment => 4,
+            Refusal::Full => 5,
+            Refusal::SequencesUsedUp => 6,
+            Refusal::LogDamaged => 7,
+            Refusal::LogOutOfOrder => 8,
+            Refusal::TooFewFrames => 9,
+            Refusal::NothingToDo => 10,
+            Refusal::HeldBack => 11,
+        }
+    }
 }
 
 // What Format, Begin, Describe and Clean step answer.

@@ -5,7 +5,6 @@ use promises::Cleaning;
 use promises::Dirty;
 use promises::Ended;
 use promises::Refusal;
-use promises::Staged;
 use promises::Standing;
 use promises::State;
 
@@ -21,27 +20,10 @@ fn show_byte(byte: u8) {
     show(byte as u64);
 }
 
-// The paper's number of a refusal.
-fn number_of(refusal: Refusal) -> u64 {
-    match refusal {
-        Refusal::WrongLength => 1,
-        Refusal::NotSound => 2,
-        Refusal::OutOfRange => 3,
-        Refusal::WrongMoment => 4,
-        Refusal::Full => 5,
-        Refusal::SequencesUsedUp => 6,
-        Refusal::LogDamaged => 7,
-        Refusal::LogOutOfOrder => 8,
-        Refusal::TooFewFrames => 9,
-        Refusal::NothingToDo => 10,
-        Refusal::HeldBack => 11,
-    }
-}
-
 // Ends a line with a refusal.
 fn refused(refusal: Refusal) {
     say(b": refused ");
-    show(number_of(refusal));
+    show(refusal.number());
     say(b"\n");
 }
 
@@ -55,19 +37,16 @@ fn answered(answer: Answer) {
 
 // No page dirty.
 fn nothing_dirty() -> [Dirty; 32] {
-    let dirty = [Dirty { page: 0, first: 0 }; 32];
+    let zero = State::all_zero();
+    let dirty = zero.dirty;
     dirty
 }
 
 // A state of 8 slots, 4 pages and 2 frames with nothing queued and nothing open.
 fn quiet(next: u64, ticket: u64, dirty: [Dirty; 32], cleaning: Cleaning) -> State {
-    let staged = [Staged {
-        page: 0,
-        offset: 0,
-        length: 0,
-        area: 0,
-    }; 32];
-    let groups = [0u8; 32];
+    let zero = State::all_zero();
+    let staged = zero.staged;
+    let groups = zero.groups;
     State {
         pages: 4,
         slots: 8,

@@ -1,13 +1,8 @@
 // The state in hand, and how many bytes of the four areas there are and how many of these are lent.
 use block::Block;
-use promises::Cleaning;
-use promises::Dirty;
-use promises::Staged;
 use promises::State;
-ghost use mathlib.Core.Path.{_≡_};
 ghost use Prim.Native.Nat.{_≤_};
 ghost use Rattle.io.specs.Counts.{Counts};
-ghost use Rattle.promises.specs.States.{allZeroState};
 
 // Bytes of each area.
 pub struct Lengths {
@@ -39,35 +34,6 @@ pub fn first(area: &[u8], count: usize) -> usize
     least(count, area.len())
 }
 
-// The all-zero state.
-pub fn all_zero() -> State
-    ensures { λ r. ⌜ r ≡ allZeroState ⌝ }
-{
-    let dirty = [Dirty { page: 0, first: 0 }; 32];
-    let staged = [Staged {
-        page: 0,
-        offset: 0,
-        length: 0,
-        area: 0,
-    }; 32];
-    let groups = [0u8; 32];
-    State {
-        pages: 0,
-        slots: 0,
-        frames: 0,
-        next: 0,
-        ticket: 0,
-        dirty,
-        staged,
-        groups,
-        queued: 0,
-        stored: 0,
-        reserved: 0,
-        described: 0,
-        cleaning: Cleaning::Idle,
-    }
-}
-
 // No areas yet.
 pub fn bare() -> Desk {
     let none = Lengths {
@@ -78,7 +44,7 @@ pub fn bare() -> Desk {
     };
     Desk {
         ready: false,
-        state: all_zero(),
+        state: State::all_zero(),
         whole: none,
         lent: none,
     }
@@ -94,7 +60,7 @@ pub fn sized(slots: usize, pages: usize, frames: usize) -> Desk {
     };
     Desk {
         ready: true,
-        state: all_zero(),
+        state: State::all_zero(),
         whole,
         lent: whole,
     }

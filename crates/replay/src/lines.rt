@@ -4,6 +4,7 @@ use crate::desk::Desk;
 use crate::desk::Lengths;
 use crate::desk::first;
 use crate::saying;
+use promises::State;
 use script::Command;
 
 // Before the areas are asked for, a line that does not ask for them is bad.
@@ -193,7 +194,7 @@ fn cut(desk: Desk, frames: &mut [u8], staging: &mut [u8]) -> Desk {
     script::fill(frames, 85);
     script::fill(staging, 85);
     saying::say(b"cut\n");
-    desk::with_state(desk, desk::all_zero())
+    desk::with_state(desk, State::all_zero())
 }
 
 // From now on so many bytes of each area are lent.

@@ -33,7 +33,7 @@ pub fn bad() {
 
 // The line of a refusal.
 pub fn refused(refusal: Refusal) {
-    numbered(b"refused ", script::refusal_number(refusal));
+    numbered(b"refused ", refusal.number());
 }
 
 // The line of Format, Begin, Describe or Clean step, which say differently that they are done.
@@ -65,7 +65,7 @@ pub fn logged(answer: Logged) {
 pub fn opened(answer: Opened, next: u64) {
     match answer {
         Opened::Refused(refusal, place) => {
-            let number = script::refusal_number(refusal);
+            let number = refusal.number();
             numbered_twice(b"refused ", number, b" place ", place);
         }
         Opened::Settled(ticket) => numbered_twice(b"opened ", ticket, b" next ", next),

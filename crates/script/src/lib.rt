@@ -1,5 +1,5 @@
-// The script language of `replay`, as far as it needs no store: a line's command, the bytes that commands ask for, the digest and
-// the numbers of refusals. A line is read byte by byte, so that a line of any length is read in no room of its own.
+// The script language of `replay`, as far as it needs no store: a line's command, the bytes that commands ask for, and the digest. A
+// line is read byte by byte, so that a line of any length is read in no room of its own.
 mod filling;
 mod parsing;
 
@@ -8,9 +8,7 @@ pub use filling::fill;
 pub use filling::home_bytes;
 pub use parsing::command_of;
 pub use parsing::turn;
-use promises::Refusal;
 ghost use mathlib.Core.Path.{_≡_};
-ghost use Rattle.promises.specs.Answers.{numberOf};
 ghost use Rattle.script.specs.Digest.{digestOf};
 
 // What a line asks for. Bad: the line is no command, or a number is out of the range that the language gives it.
@@ -80,23 +78,4 @@ pub fn digest(bytes: &[u8]) -> u64
         i += 1;
     }
     h
-}
-
-// The paper's number of a refusal.
-pub fn refusal_number(refusal: Refusal) -> u64
-    ensures { λ r. ⌜ r ≡ numberOf refusal ⌝ }
-{
-    match refusal {
-        Refusal::WrongLength => 1,
-        Refusal::NotSound => 2,
-        Refusal::OutOfRange => 3,
-        Refusal::WrongMoment => 4,
-        Refusal::Full => 5,
-        Refusal::SequencesUsedUp => 6,
-        Refusal::LogDamaged => 7,
-        Refusal::LogOutOfOrder => 8,
-        Refusal::TooFewFrames => 9,
-        Refusal::NothingToDo => 10,
-        Refusal::HeldBack => 11,
-    }
 }

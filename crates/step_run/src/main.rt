@@ -8,7 +8,6 @@ use promises::Answer;
 use promises::Cleaning;
 use promises::Dirty;
 use promises::Logged;
-use promises::Refusal;
 use promises::Staged;
 use promises::State;
 
@@ -28,23 +27,6 @@ fn show_byte(byte: u8) {
 fn field(word: &[u8], number: u64) {
     say(word);
     show(number);
-}
-
-// The paper's number of a refusal.
-fn number_of(refusal: Refusal) -> u64 {
-    match refusal {
-        Refusal::WrongLength => 1,
-        Refusal::NotSound => 2,
-        Refusal::OutOfRange => 3,
-        Refusal::WrongMoment => 4,
-        Refusal::Full => 5,
-        Refusal::SequencesUsedUp => 6,
-        Refusal::LogDamaged => 7,
-        Refusal::LogOutOfOrder => 8,
-        Refusal::TooFewFrames => 9,
-        Refusal::NothingToDo => 10,
-        Refusal::HeldBack => 11,
-    }
 }
 
 // One hex digit.
@@ -152,7 +134,7 @@ fn logs(
     let answer = outcome.answer;
     let after = outcome.state;
     match answer {
-        Logged::Refused(refusal) => field(b"log step refused ", number_of(refusal)),
+        Logged::Refused(refusal) => field(b"log step refused ", refusal.number()),
         Logged::Stored => say(b"log step stored"),
         Logged::Settled(ticket) => field(b"log step settled ", ticket),
     }
@@ -184,7 +166,7 @@ fn cleans(
     let answer = outcome.answer;
     let after = outcome.state;
     match answer {
-        Answer::Refused(refusal) => field(b"clean step refused ", number_of(refusal)),
+        Answer::Refused(refusal) => field(b"clean step refused ", refusal.number()),
         Answer::Done => say(b"clean step done"),
     }
     show_slot(log, slot);
@@ -222,11 +204,12 @@ fn state_of(
     stored: usize,
     cleaning: Cleaning,
 ) -> State {
-    let mut dirty = [Dirty { page: 0, first: 0 }; 32];
+    let zero = State::all_zero();
+    let mut dirty = zero.dirty;
     dirty[0] = first_frame;
     dirty[1] = second_frame;
     let staged = two_staged();
-    let mut groups = [0u8; 32];
+    let mut groups = zero.groups;
     groups[0] = size;
     State {
         pages: 4,

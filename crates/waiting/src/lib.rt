@@ -40,7 +40,7 @@ fn number_of(answer: Answer) -> u64
     ensures { λ r. ⌜ r ≡ numberIn (answered answer) ⌝ }
 {
     match answer {
-        Answer::Refused(refusal) => script::refusal_number(refusal),
+        Answer::Refused(refusal) => refusal.number(),
         Answer::Done => 0,
     }
 }

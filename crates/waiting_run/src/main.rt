@@ -18,7 +18,7 @@ fn field(word: &[u8], number: u64) {
 
 fn show(answer: Answer) {
     match answer {
-        Answer::Refused(refusal) => field(b" refused ", script::refusal_number(refusal)),
+        Answer::Refused(refusal) => field(b" refused ", refusal.number()),
         Answer::Done => say(b" done"),
     }
 }

@@ -4,29 +4,11 @@ use promises::Answer;
 use promises::Ended;
 use promises::Logged;
 use promises::Opened;
-use promises::Refusal;
-
-// The paper's number of a refusal.
-pub fn number_of(refusal: Refusal) -> u64 {
-    match refusal {
-        Refusal::WrongLength => 1,
-        Refusal::NotSound => 2,
-        Refusal::OutOfRange => 3,
-        Refusal::WrongMoment => 4,
-        Refusal::Full => 5,
-        Refusal::SequencesUsedUp => 6,
-        Refusal::LogDamaged => 7,
-        Refusal::LogOutOfOrder => 8,
-        Refusal::TooFewFrames => 9,
-        Refusal::NothingToDo => 10,
-        Refusal::HeldBack => 11,
-    }
-}
 
 // The digest with the answer of Begin, Describe or Clean step.
 pub fn answered(digest: u64, answer: Answer) -> u64 {
     match answer {
-        Answer::Refused(refusal) => numbers::note(digest, number_of(refusal)),
+        Answer::Refused(refusal) => numbers::note(digest, refusal.number()),
         Answer::Done => numbers::accepted(digest, 0),
     }
 }
@@ -34,7 +16,7 @@ pub fn answered(digest: u64, answer: Answer) -> u64 {
 // Whether Begin is refused as full.
 pub fn is_full(answer: Answer) -> bool {
     match answer {
-        Answer::Refused(refusal) => number_of(refusal) == 5,
+        Answer::Refused(refusal) => refusal.number() == 5,
         Answer::Done => false,
     }
 }
@@ -42,7 +24,7 @@ pub fn is_full(answer: Answer) -> bool {
 // The digest with End's answer.
 pub fn ended(digest: u64, answer: Ended) -> u64 {
     match answer {
-        Ended::Refused(refusal) => numbers::note(digest, number_of(refusal)),
+        Ended::Refused(refusal) => numbers::note(digest, refusal.number()),
         Ended::Ticket(ticket) => numbers::accepted(digest, ticket),
     }
 }
@@ -50,7 +32,7 @@ pub fn ended(digest: u64, answer: Ended) -> u64 {
 // The digest with Log step's answer.
 pub fn logged(digest: u64, answer: Logged) -> u64 {
     match answer {
-        Logged::Refused(refusal) => numbers::note(digest, number_of(refusal)),
+        Logged::Refused(refusal) => numbers::note(digest, refusal.number()),
         Logged::Stored => numbers::accepted(digest, 0),
         Logged::Settled(ticket) => numbers::accepted(digest, ticket),
     }
@@ -59,7 +41,7 @@ pub fn logged(digest: u64, answer: Logged) -> u64 {
 // The digest with Open's answer.
 pub fn opened(digest: u64, answer: Opened) -> u64 {
     match answer {
-        Opened::Refused(refusal, place) => numbers::note(digest, number_of(refusal)),
+        Opened::Refused(refusal, place) => numbers::note(digest, refusal.number()),
         Opened::Settled(ticket) => numbers::accepted(digest, ticket),
     }
 }
