@@ -17,7 +17,7 @@ use Rattle.promises.specs.Areas.{pageAt, slotsIn, pagesIn}
 use Rattle.promises.specs.Blocks.{Slot, unused, damaged, valid, kindIn, slotAt, slotsOf}
 use Rattle.promises.specs.DirtyPages.{keepFromOf}
 use Rattle.promises.specs.Newest.{sequenceIn, newest, keepIn, keepOf, blocks, allUnused, isDamaged, gathered}
-use Rattle.promises.specs.Walk.{Walk, Finding, stops as findingStops, stands as findingStands, walkFrom, finding, startWith}
+use Rattle.promises.specs.Walk.{Walk, inOrder, Finding, stops as findingStops, stands as findingStands, walkFrom, finding, startWith}
 use Rattle.recovery.specs.Log.{headerOf, blockOf, blocksFrom, Legal}
 use Rattle.opening.proofs.Gathering.{stands-legal, newest-stands, keep-is, finds-fresh, finds-damaged, finds-missing, finds-end, gathers-blocks, finds-blocks}
 use Rattle.outline.specs.Outline.{
@@ -27,7 +27,7 @@ use Rattle.outline.specs.Outline.{
   stands,
   outlineOf,
   sketchOf,
-  follows,
+  outlineFits,
   seated,
   after,
   turned,
@@ -44,7 +44,7 @@ use Rattle.listing.specs.Listing.{headersFrom}
 
 turned-form : (frames : ℕ) (kind : format.Kind) (bytes : List ℕ) (ticket sequence : ℕ) (outline : Outline)
     → turned frames kind ticket sequence outline ≡ turned frames (formOf (kindIn kind bytes)) ticket sequence outline
-unfolding turned follows seated after
+unfolding turned inOrder seated after
 turned-form frames (Update index page offset size) bytes ticket sequence outline = refl
 turned-form frames (Commit updates) bytes ticket sequence outline = refl
 turned-form frames (Clean page) bytes ticket sequence outline = refl
@@ -81,7 +81,7 @@ steps-place : (list : List Block) (sequence : ℕ) (outline : Outline) (next : �
 unfolding steps turned
 steps-place [] sequence outline next outline′ e = let p : sequence ≡ next = cc in omega arith
 steps-place (block ∷ list) sequence outline next outline′ e =
-    turn (follows (block .kind) (block .ticket) outline) (seated 32 (block .kind) outline) e
+    turn (outlineFits outline (block .kind) (block .ticket)) (seated 32 (block .kind) outline) e
     (λ h. steps-place list (suc sequence) (after sequence (block .kind) outline) next outline′ h)
   where
     stopped : (refusal : ℕ) (more : List Block) → steps 32 more (stops refusal sequence) ≡ stands next outline′ → ⊥

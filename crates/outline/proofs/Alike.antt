@@ -12,7 +12,7 @@ use Rattle.block.specs.declared.Kind as format
 use Rattle.block.specs.declared.Kind.the-variants as formats
 use Rattle.promises.specs.Areas.{pageAt}
 use Rattle.promises.specs.Updates.{Update}
-use Rattle.promises.specs.Blocks.{Kind, update, commit, clean, LogBlock, slotsOf}
+use Rattle.promises.specs.Blocks.{Kind, update, commit, clean, kindIn, LogBlock, slotsOf}
 use Rattle.promises.specs.DirtyPages.{DirtyPage, apply, applyAll, without, keepFromOf}
 use Rattle.promises.specs.Newest.{Gathered, missing, blocks, newest, keepOf, gathered}
 use Rattle.promises.specs.Walk.{
@@ -31,6 +31,8 @@ use Rattle.promises.specs.Walk.{
   believed,
 }
 use Rattle.block.proofs.Tests.{by-cases}
+use Rattle.recovery.specs.Order.{inOrderAfter}
+use Rattle.recovery.proofs.Ordering.{order-is, change-any}
 use Rattle.outline.specs.declared.Mark.{Mark}
 use Rattle.outline.specs.Marks.{marksOf, pagesOf, marked, markedAll, unmarked, earliest}
 use Rattle.outline.specs.Outline.{
@@ -39,7 +41,7 @@ use Rattle.outline.specs.Outline.{
   stands,
   outlineOf,
   sketchOf,
-  follows,
+  outlineFits,
   seated,
   after,
   turned,
@@ -97,11 +99,15 @@ formOf (update index change) = formats.Update index (change .page) 0 0
 formOf (commit updates) = formats.Commit updates
 formOf (clean page) = formats.Clean page
 
-order-alike : (kind : Kind) (ticket : ℕ) (walk : Walk) → inOrder kind ticket walk ≡ follows (formOf kind) ticket (outlineOf walk)
-unfolding inOrder follows
-order-alike (update index change) ticket walk = rw (pages-length (walk .group))
-order-alike (commit updates) ticket walk = rw (pages-length (walk .group))
-order-alike (clean page) ticket walk = refl
+form-alike : (kind : Kind) (ticket count walked : ℕ) → inOrderAfter kind ticket count walked ≡ inOrderAfter (kindIn (formOf kind) []) ticket count walked
+form-alike (update index change) ticket count walked = change-any index ticket count walked change _
+form-alike (commit updates) ticket count walked = refl
+form-alike (clean page) ticket count walked = refl
+
+order-alike : (kind : Kind) (ticket : ℕ) (walk : Walk) → inOrder kind ticket walk ≡ outlineFits (outlineOf walk) (formOf kind) ticket
+order-alike kind ticket walk =
+    order-is kind ticket (length (pagesOf (walk .group))) (walk .ticket) walk (sym (pages-length (walk .group))) refl
+    ∙ form-alike kind ticket (length (pagesOf (walk .group))) (walk .ticket)
 
 frames-alike : (frames : ℕ) (home : ℕ → List ℕ) (kind : Kind) (walk : Walk) → framed frames home kind walk ≡ seated frames (formOf kind) (outlineOf walk)
 unfolding framed seated
@@ -164,12 +170,12 @@ walk-alike slots frames home next sequence (block ∷ list) walk e =
     stopped : (refusal : ℕ) → stops refusal sequence ≡ ended slots (steps frames (fieldsFrom (suc sequence) list) (stops refusal sequence))
     stopped refusal = unfold ended in sym (ap (ended slots) (steps-stopped frames (fieldsFrom (suc sequence) list) refusal sequence))
 
-    turn : (a b : Bool) → a ≡ follows (formOf (block .kind)) (block .ticket) (outlineOf walk) → b ≡ seated frames (formOf (block .kind)) (outlineOf walk)
+    turn : (a b : Bool) → a ≡ outlineFits (outlineOf walk) (formOf (block .kind)) (block .ticket) → b ≡ seated frames (formOf (block .kind)) (outlineOf walk)
         → sketchOf (walkFrom slots frames home next (suc sequence) list (walkBlock home sequence (block .kind) walk))
         ≡ ended slots (steps frames (fieldsFrom (suc sequence) list) (stands (suc sequence) (outlineOf (walkBlock home sequence (block .kind) walk))))
         → sketchOf (cond a (cond b (walkFrom slots frames home next (suc sequence) list (walkBlock home sequence (block .kind) walk)) (findingStops 9 sequence)) (findingStops 8 sequence))
         ≡ ended slots (steps frames (fieldsFrom (suc sequence) list)
-        (cond (follows (formOf (block .kind)) (block .ticket) (outlineOf walk))
+        (cond (outlineFits (outlineOf walk) (formOf (block .kind)) (block .ticket))
         (cond (seated frames (formOf (block .kind)) (outlineOf walk)) (stands (suc sequence) (after sequence (formOf (block .kind)) (outlineOf walk))) (stops 9 sequence))
         (stops 8 sequence)))
     turn true true p q ih = rw (← p, ← q, ← block-alike home sequence (block .kind) walk) ih
@@ -184,7 +190,7 @@ module _ (slots frames : ℕ) (home home′ : ℕ → List ℕ) (next : ℕ) whe
   walk-same sequence [] walk walk′ e = end-alike slots next walk ∙ ap (λ (o : Outline). ended slots (stands next o)) e ∙ sym (end-alike slots next walk′)
   walk-same sequence (block ∷ list) walk walk′ e =
       turn (inOrder (block .kind) (block .ticket) walk) (framed frames home (block .kind) walk)
-      (order-alike (block .kind) (block .ticket) walk ∙ ap (follows (formOf (block .kind)) (block .ticket)) e ∙ sym (order-alike (block .kind) (block .ticket) walk′))
+      (order-alike (block .kind) (block .ticket) walk ∙ ap (λ (o : Outline). outlineFits o (formOf (block .kind)) (block .ticket)) e ∙ sym (order-alike (block .kind) (block .ticket) walk′))
       (frames-alike frames home (block .kind) walk ∙ ap (seated frames (formOf (block .kind))) e ∙ sym (frames-alike frames home′ (block .kind) walk′))
       (walk-same (suc sequence) list (walkBlock home sequence (block .kind) walk) (walkBlock home′ sequence (block .kind) walk′)
       (block-alike home sequence (block .kind) walk ∙ ap (after sequence (formOf (block .kind))) e ∙ sym (block-alike home′ sequence (block .kind) walk′)))

@@ -1,19 +1,20 @@
 -- One block of the walk without bytes: refused, or one place further.
 -- Assumes nothing.
 use mathlib.Core.Path.{_≡_, sym, ap, _∙_}
-use mathlib.Core.Bool.{true, false, _&&_, _||_}
+use mathlib.Core.Bool.{true, false}
 use mathlib.Core.List.{[], _∷_, _++_}
 use Prim.Native.Nat.{ℕ, suc, _+_, _-_, _≤_, _<_}
 use native.Mathlib.Numerals.{add-one}
 use native.Mathlib.Omega.{arith}
-use lib.Dec.{eqb, ltb}
 use lib.ListN.{length}
-use borrow.Author.Tests.{eq-eqb, ne-eqb, eqb-true, lt-leb, le-leb}
+use borrow.Author.Tests.{eq-eqb, ne-eqb, lt-leb, le-leb}
 use Rattle.block.specs.Sizes.{sequenceEnd, groupMost}
 use Rattle.block.specs.declared.Block.{Block}
 use Rattle.block.specs.declared.Kind.{Kind}
 use Rattle.block.specs.declared.Kind.the-variants.{Update, Commit, Clean}
-use Rattle.promises.proofs.Soundness.{and-both}
+use Rattle.promises.specs.Walk.{Walk}
+use Rattle.recovery.specs.Order.{counted}
+use Rattle.recovery.proofs.Ordering.{count-is, next-told}
 use Rattle.outline.specs.declared.Marks.{Marks}
 use Rattle.outline.specs.declared.Group.{Group}
 use Rattle.outline.specs.declared.Course.{Course}
@@ -21,7 +22,7 @@ use Rattle.outline.specs.Marks.{marksIn, pagesIn, unmarked, earliest}
 use Rattle.outline.specs.Outline.{
   stops,
   stands,
-  follows,
+  outlineFits,
   committed,
   seated,
   after,
@@ -51,7 +52,7 @@ sketch-refused course e = rw (ne-eqb _ _ e)
 
 module _ (course : Course) (kind : Kind) (ticket : ℕ) (bounded : Bounded course) where
   -- out of order: 8
-  pub turned-out : (result : Course) → result ≡ refusedAs course 8 → follows kind ticket (outlineIn course) ≡ false → Turns kind ticket course result
+  pub turned-out : (result : Course) → result ≡ refusedAs course 8 → outlineFits (outlineIn course) kind ticket ≡ false → Turns kind ticket course result
   unfolding turned
   turned-out result e out = rw e (record {
     sketchIs = sketch-refused (refusedAs course 8) (λ z. omega arith) ∙ rw out;
@@ -61,7 +62,7 @@ module _ (course : Course) (kind : Kind) (ticket : ℕ) (bounded : Bounded cours
   })
 
   -- too few frames: 9
-  pub turned-full : (result : Course) → result ≡ refusedAs course 9 → follows kind ticket (outlineIn course) ≡ true
+  pub turned-full : (result : Course) → result ≡ refusedAs course 9 → outlineFits (outlineIn course) kind ticket ≡ true
       → seated 32 kind (outlineIn course) ≡ false → Turns kind ticket course result
   unfolding turned
   turned-full result e right full = rw e (record {
@@ -73,7 +74,7 @@ module _ (course : Course) (kind : Kind) (ticket : ℕ) (bounded : Bounded cours
 
   -- the walk goes on
   pub turned-on : (result : Course) (ticket′ : ℕ) (group : Group) (marks : Marks) → result ≡ advancedTo course ticket′ group marks → course .refusal ≡ 0
-      → follows kind ticket (outlineIn course) ≡ true → seated 32 kind (outlineIn course) ≡ true
+      → outlineFits (outlineIn course) kind ticket ≡ true → seated 32 kind (outlineIn course) ≡ true
       → after (course .place) kind (outlineIn course) ≡ record { group = pagesIn group; start = group .start; ticket = ticket′; marks = marksIn marks }
       → group .count ≤ groupMost → marks .count ≤ 32 → ticket′ < sequenceEnd → Turns kind ticket course result
   unfolding turned
@@ -87,36 +88,20 @@ module _ (course : Course) (kind : Kind) (ticket : ℕ) (bounded : Bounded cours
     placeMost = omega arith;
   })
 
--- ---- the tests, by the counts
+-- ---- the order, by the counts
+
+-- the walk of which the code's test speaks
+abbrev pub countedIn : Course → Walk
+countedIn course = counted (length (pagesIn (course .group))) (course .ticket)
 
 module _ (course : Course) (size : length (pagesIn (course .group)) ≡ course .group .count) where
-  pub follows-update : (index page ticket : ℕ)
-      → follows (Update index page 0 0) ticket (outlineIn course)
-      ≡ ((eqb index 1 || (ltb 0 (course .group .count) && eqb index (course .group .count + 1))) && eqb ticket (course .ticket))
-  unfolding follows
-  follows-update index page ticket = rw size
+  pub counted-is : course .group .count ≡ length (countedIn course .group)
+  counted-is = sym size ∙ count-is (length (pagesIn (course .group))) (course .ticket)
 
-  pub follows-commit : (updates ticket : ℕ)
-      → follows (Commit updates) ticket (outlineIn course)
-      ≡ (ltb 0 (course .group .count) && eqb updates (course .group .count) && eqb ticket (course .ticket + 1))
-  unfolding follows
-  follows-commit updates ticket = rw size
-
--- an index that is not 1 is the next
-pub next-index : (index count ticket ticket′ : ℕ) → ((eqb index 1 || (ltb 0 count && eqb index (count + 1))) && eqb ticket ticket′) ≡ true
-    → (index ≡ 1 → ⊥) → index ≡ count + 1
-next-index index count ticket ticket′ e n =
-    let a = and-both (eqb index 1 || (ltb 0 count && eqb index (count + 1))) (eqb ticket ticket′) e in
-    let b : (false || (ltb 0 count && eqb index (count + 1))) ≡ true = rw (ne-eqb index 1 n) at a .0 in
-    eqb-true _ _ (and-both (ltb 0 count) (eqb index (count + 1)) b .1)
-
--- the ticket is right
-pub update-ticket : (index count ticket ticket′ : ℕ) → ((eqb index 1 || (ltb 0 count && eqb index (count + 1))) && eqb ticket ticket′) ≡ true → ticket ≡ ticket′
-update-ticket index count ticket ticket′ e =
-    eqb-true ticket ticket′ (and-both (eqb index 1 || (ltb 0 count && eqb index (count + 1))) (eqb ticket ticket′) e .1)
-
-pub commit-ticket : (updates count ticket ticket′ : ℕ) → (ltb 0 count && eqb updates count && eqb ticket (ticket′ + 1)) ≡ true → ticket ≡ ticket′ + 1
-commit-ticket updates count ticket ticket′ e = eqb-true ticket (ticket′ + 1) (and-both (ltb 0 count && eqb updates count) (eqb ticket (ticket′ + 1)) e .1)
+  -- an index that is not 1 is the next
+  pub next-index : (index page ticket : ℕ) → outlineFits (outlineIn course) (Update index page 0 0) ticket ≡ true → (index ≡ 1 → ⊥)
+      → index ≡ course .group .count + 1
+  next-index index page ticket e n = next-told ticket (length (pagesIn (course .group))) (course .ticket) index _ e n .1 ∙ ap (λ (n : ℕ). n + 1) size
 
 -- ---- a block, as the walk meets it
 

@@ -3,15 +3,17 @@
 -- Assumes nothing.
 use Prim.Native.Nat.{ℕ, suc, _+_, _-_, _≤_, _<_}
 use mathlib.Core.Path.{_≡_}
-use mathlib.Core.Bool.{Bool, true, cond, _&&_, _||_}
+use mathlib.Core.Bool.{Bool, true, cond}
 use mathlib.Core.List.{List, [], _∷_, _++_}
 use lib.ListN.{length}
-use lib.Dec.{eqb, leb, ltb}
+use lib.Dec.{eqb, leb}
 use Rattle.block.specs.Sizes.{sequenceEnd, groupMost}
 use Rattle.block.specs.declared.Block.{Block}
 use Rattle.block.specs.declared.Kind.{Kind}
 use Rattle.block.specs.declared.Kind.the-variants.{Update, Commit, Clean}
+use Rattle.promises.specs.Blocks.{kindIn}
 use Rattle.promises.specs.Walk.{Walk, Finding, stops as findingStops, stands as findingStands}
+use Rattle.recovery.specs.Order.{inOrderAfter}
 use Rattle.outline.specs.declared.Mark.{Mark}
 use Rattle.outline.specs.declared.Marks.{Marks}
 use Rattle.outline.specs.declared.Group.{Group}
@@ -41,12 +43,8 @@ sketchOf (findingStands next walk) = stands next (outlineOf walk)
 -- ---- one block
 
 -- no refusal 8
-unfoldable pub follows : Kind → ℕ → Outline → Bool
-follows (Update index page offset size) ticket outline =
-    (eqb index 1 || (ltb 0 (length (outline .group)) && eqb index (length (outline .group) + 1))) && eqb ticket (outline .ticket)
-follows (Commit updates) ticket outline =
-    ltb 0 (length (outline .group)) && eqb updates (length (outline .group)) && eqb ticket (outline .ticket + 1)
-follows (Clean page) ticket outline = eqb ticket (outline .ticket)
+abbrev pub outlineFits : Outline → Kind → ℕ → Bool
+outlineFits outline kind ticket = inOrderAfter (kindIn kind []) ticket (length (outline .group)) (outline .ticket)
 
 abbrev pub committed : Outline → List Mark
 committed outline = markedAll (outline .start) (outline .group) (outline .marks)
@@ -69,7 +67,7 @@ after sequence (Clean page) outline = record { group = []; start = 0; ticket = o
 -- what a block makes of a walk: 8, then 9, then the next place
 unfoldable pub turned : ℕ → Kind → ℕ → ℕ → Outline → Sketch
 turned frames kind ticket sequence outline =
-    cond (follows kind ticket outline)
+    cond (outlineFits outline kind ticket)
     (cond (seated frames kind outline) (stands (suc sequence) (after sequence kind outline)) (stops 9 sequence))
     (stops 8 sequence)
 

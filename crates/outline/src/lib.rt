@@ -1,5 +1,5 @@
 // Open's walk over a log's blocks without bytes: a dirty page is its number and its first group, an update is its page. No home and no
-// frames are needed for it. It knows a block's fields, and nothing of a log.
+// frames are needed for it. It knows a block's fields, the order of blocks from recovery, and nothing of a log.
 use block::Block;
 use block::Kind;
 ghost use mathlib.Core.Path.{_≡_};
@@ -197,9 +197,7 @@ fn walk_update(course: Course, index: usize, page: usize, ticket: u64) -> Course
 {
     let group = course.group;
     let marks = course.marks;
-    let next = (0 < group.count) & (index == group.count + 1);
-    let right = ((index == 1) | next) & (ticket == course.ticket);
-    if !right {
+    if !recovery::order::update_fits(index, ticket, group.count, course.ticket) {
         return refused(course, 8);
     }
     if index == 1 {
@@ -215,8 +213,7 @@ fn walk_commit(course: Course, updates: usize, ticket: u64) -> Course
 {
     let group = course.group;
     let marks = course.marks;
-    let right = (0 < group.count) & (updates == group.count) & (ticket == course.ticket + 1);
-    if !right {
+    if !recovery::order::commit_fits(updates, ticket, group.count, course.ticket) {
         return refused(course, 8);
     }
     let marked = mark_group(marks, group);
@@ -232,7 +229,7 @@ fn walk_clean(course: Course, page: usize, ticket: u64) -> Course
     ensures { λ r. ⌜ Turns (Clean page) ticket course r ⌝ }
 {
     let marks = course.marks;
-    if ticket != course.ticket {
+    if !recovery::order::clean_fits(ticket, course.ticket) {
         return refused(course, 8);
     }
     advanced(course, ticket, no_group(), unmark_page(marks, page))

@@ -5,12 +5,14 @@ use mathlib.Core.Bool.{Bool, true, false, cond, not}
 use mathlib.Core.List.{List}
 use Prim.Native.Nat.{ℕ, _+_}
 use lib.Dec.{eqb}
-use borrow.Author.Tests.{eq-eqb, ne-eqb, eqb-true, eqb-false, not-true, not-false}
+use borrow.Author.Tests.{eq-eqb, ne-eqb, not-true, not-false}
 use Rattle.block.proofs.Tests.{never-both}
+use Rattle.promises.specs.Blocks.{update, commit, clean}
+use Rattle.promises.specs.LogStep.{noUpdate}
 use Rattle.table.specs.declared.Table.{Table}
 use Rattle.table.specs.Table.{AppliesAll, Drops}
 use Rattle.recovery.specs.Log.{updatesFrom}
-use Rattle.recovery.specs.Walking.{Walk, refusedAt, halfAt, closedWith, updateFits, commitFits, updated, Cleans, Commits, spanFits, tested}
+use Rattle.recovery.specs.Walking.{Walk, refusedAt, halfAt, closedWith, walkFits, updated, Cleans, Commits, spanFits, tested}
 
 -- a test that the code negates
 pub fails : (t test : Bool) → t ≡ test → not t ≡ true → test ≡ false
@@ -22,16 +24,16 @@ holds t test e f = sym e ∙ not-false t f
 -- ---- an update
 
 module _ (walk : Walk) (s index ticket : ℕ) where
-  pub updated-wrong : updateFits walk index ticket ≡ false → refusedAt walk 8 s ≡ updated walk s index ticket
+  pub updated-wrong : walkFits walk (update index noUpdate) ticket ≡ false → refusedAt walk 8 s ≡ updated walk s index ticket
   unfolding updated
   updated-wrong e = rw e
 
-  pub updated-first : updateFits walk index ticket ≡ true → eqb index 1 ≡ true → halfAt walk s 1 ≡ updated walk s index ticket
+  pub updated-first : walkFits walk (update index noUpdate) ticket ≡ true → eqb index 1 ≡ true → halfAt walk s 1 ≡ updated walk s index ticket
   unfolding updated
   updated-first e f = sym (ap (λ (b : Bool). cond b (cond (eqb index 1) (halfAt walk s 1) (halfAt walk (walk .start) index)) (refusedAt walk 8 s)) e
       ∙ ap (λ (b : Bool). cond b (halfAt walk s 1) (halfAt walk (walk .start) index)) f)
 
-  pub updated-next : updateFits walk index ticket ≡ true → eqb index 1 ≡ false → halfAt walk (walk .start) index ≡ updated walk s index ticket
+  pub updated-next : walkFits walk (update index noUpdate) ticket ≡ true → eqb index 1 ≡ false → halfAt walk (walk .start) index ≡ updated walk s index ticket
   unfolding updated
   updated-next e f = sym (ap (λ (b : Bool). cond b (cond (eqb index 1) (halfAt walk s 1) (halfAt walk (walk .start) index)) (refusedAt walk 8 s)) e
       ∙ ap (λ (b : Bool). cond b (halfAt walk s 1) (halfAt walk (walk .start) index)) f)
@@ -39,19 +41,20 @@ module _ (walk : Walk) (s index ticket : ℕ) where
 -- ---- a clean
 
 module _ (walk : Walk) (s page ticket : ℕ) (r : Walk) where
-  pub cleans-wrong : (ticket ≡ walk .ticket → ⊥) → r ≡ refusedAt walk 8 s → Cleans walk s page ticket r
-  cleans-wrong n e = record { wrong = λ f. e; right = λ f. absurd (n (eqb-true _ _ f)) }
+  pub cleans-wrong : walkFits walk (clean page) ticket ≡ false → r ≡ refusedAt walk 8 s → Cleans walk s page ticket r
+  cleans-wrong n e = record { wrong = λ f. e; right = λ f. absurd (never-both _ f n) }
 
-  pub cleans-right : (t : Table) → ticket ≡ walk .ticket → Drops (walk .table) page t → r ≡ closedWith walk (walk .ticket) t → Cleans walk s page ticket r
-  cleans-right t q d e = record { wrong = λ f. absurd (eqb-false _ _ f q); right = λ f. (t, d, e) }
+  pub cleans-right : (t : Table) → walkFits walk (clean page) ticket ≡ true → Drops (walk .table) page t → r ≡ closedWith walk (walk .ticket) t
+      → Cleans walk s page ticket r
+  cleans-right t q d e = record { wrong = λ f. absurd (never-both _ q f); right = λ f. (t, d, e) }
 
 -- ---- a commit
 
 module _ (log home : List ℕ) (walk : Walk) (frames : List ℕ) (s updates ticket : ℕ) (r : Walk) (frames′ : List ℕ) where
-  pub commits-wrong : commitFits walk updates ticket ≡ false → r ≡ refusedAt walk 8 s → Commits log home walk frames s updates ticket r frames′
+  pub commits-wrong : walkFits walk (commit updates) ticket ≡ false → r ≡ refusedAt walk 8 s → Commits log home walk frames s updates ticket r frames′
   commits-wrong n e = record { wrong = λ f. e; right = λ f. absurd (never-both _ f n) }
 
-  pub commits-right : (t : Table) → commitFits walk updates ticket ≡ true
+  pub commits-right : (t : Table) → walkFits walk (commit updates) ticket ≡ true
       → AppliesAll (walk .table) home frames (updatesFrom log (walk .start) (walk .count)) (walk .start) t frames′
       → r ≡ cond (t .full) (refusedAt (closedWith walk ticket t) 9 s) (closedWith walk ticket t) → Commits log home walk frames s updates ticket r frames′
   commits-right t q a e = record { wrong = λ f. absurd (never-both _ q f); right = λ f. (t, a, e) }

@@ -5,11 +5,12 @@ use mathlib.Core.Bool.{Bool, true, false, not}
 use mathlib.Core.List.{List}
 use Prim.Native.Nat.{ℕ}
 use lib.Dec.{eqb}
+use Rattle.promises.specs.Blocks.{commit}
 use Rattle.table.specs.Table.{AppliesAll}
 use Rattle.table.specs.Seats.{seated}
 use Rattle.recovery.specs.declared.Stage.{Stage}
 use Rattle.recovery.specs.Log.{updatesFrom}
-use Rattle.recovery.specs.Walking.{walkOf, stageRefused, stageClosed, refusedAt, commitFits, Commits}
+use Rattle.recovery.specs.Walking.{walkOf, stageRefused, stageClosed, refusedAt, walkFits, Commits}
 use Rattle.recovery.proofs.Changing.{commits-right}
 
 module _ (stage : Stage) (seats : List ℕ) (z : stage .refusal ≡ 0) where
@@ -28,7 +29,7 @@ module _ (stage : Stage) (seats : List ℕ) (z : stage .refusal ≡ 0) where
 -- ---- a commit whose group took effect
 
 module _ (log home : List ℕ) (stage : Stage) (seats frames : List ℕ) (s updates ticket : ℕ) (z : stage .refusal ≡ 0)
-    (fit : commitFits (walkOf stage seats) updates ticket ≡ true) (fits : Bool) (seats′ frames′ : List ℕ)
+    (fit : walkFits (walkOf stage seats) (commit updates) ticket ≡ true) (fits : Bool) (seats′ frames′ : List ℕ)
     (a : AppliesAll (seated false seats) home frames (updatesFrom log (stage .start) (stage .count)) (stage .start) (seated (not fits) seats′) frames′)
     (w : Stage) (e : w ≡ stageClosed stage ticket) where
   -- from the walk's table

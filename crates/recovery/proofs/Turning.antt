@@ -1,13 +1,13 @@
 -- One block walked over is the paper's turn: an update, a clean and a commit.
 -- Assumes nothing.
 use mathlib.Core.Path.{_≡_, refl, sym, ap, _∙_, subst}
-use mathlib.Core.Bool.{Bool, true, false, cond, _&&_, _||_}
+use mathlib.Core.Bool.{Bool, true, false, cond}
 use mathlib.Core.List.{List, [], _∷_, _++_}
 use Prim.Native.Nat.{ℕ, zero, suc, _+_, _≤_, _<_}
 use native.Mathlib.Omega.{arith}
-use lib.Dec.{eqb, ltb, leb}
+use lib.Dec.{eqb, leb}
 use lib.ListN.{length}
-use borrow.Author.Tests.{eqb-true, leb-true, leb-false, ltb-true}
+use borrow.Author.Tests.{eqb-false, leb-true, leb-false}
 use Rattle.block.specs.Legal.{legal, legalKind, legalNumbers}
 use Rattle.block.specs.declared.Kind as format
 use Rattle.block.proofs.Tests.{by-cases, tests, never-both}
@@ -16,14 +16,16 @@ use Rattle.promises.specs.Areas.{pageAt, slotsIn, pagesIn}
 use Rattle.promises.specs.Updates.{Update}
 use Rattle.promises.specs.Blocks.{Kind, update, commit, clean, kindIn}
 use Rattle.promises.specs.DirtyPages.{DirtyPage, apply, applyAll, without}
+use Rattle.promises.specs.LogStep.{noUpdate}
 use Rattle.promises.specs.Walk.{Walk as PaperWalk, walkBlock, inOrder, framed}
 use Rattle.promises.proofs.Soundness.{and-both}
 use Rattle.table.specs.declared.Table.{Table}
 use Rattle.table.specs.Table.{Each, AppliesAll, Drops}
 use Rattle.table.proofs.Holding.{each-apply, each-without}
 use Rattle.recovery.specs.Log.{bytesOf, headerOf, blockOf, changeIn, updateOf, updatesFrom, Placed, Legal}
-use Rattle.recovery.specs.Walking.{Walk, refusedAt, halfAt, closedWith, updateFits, commitFits, updated, Cleans, Commits, Ready, Early, Stands, Refused, Turns}
+use Rattle.recovery.specs.Walking.{Walk, refusedAt, halfAt, closedWith, walkFits, updated, Cleans, Commits, Ready, Early, Stands, Refused, Turns}
 use Rattle.recovery.proofs.Groups.{update-is, group-more, group-length}
+use Rattle.recovery.proofs.Ordering.{order-is, change-any, next-told, commit-told}
 use Rattle.recovery.proofs.Changing.{updated-wrong, updated-first, updated-next}
 
 -- ---- a legal block
@@ -80,28 +82,8 @@ module _ (log home : List ℕ) (s : ℕ) (walk : Walk) (frames : List ℕ) (pape
   group-count : length (paper .group) ≡ walk .count
   group-count = ap length (sym (st .groupIs)) ∙ group-length log (walk .start) (walk .count)
 
-  pub update-test : (index ticket : ℕ) (change : Update) → inOrder (update index change) ticket paper ≡ updateFits walk index ticket
-  unfolding inOrder
-  update-test index ticket change =
-      ap (λ (n : ℕ). (eqb index 1 || (ltb 0 n && eqb index (n + 1))) && eqb ticket (paper .ticket)) group-count
-      ∙ ap (λ (n : ℕ). (eqb index 1 || (ltb 0 (walk .count) && eqb index (walk .count + 1))) && eqb ticket n) (sym (st .ticketIs))
-
-  pub commit-test : (updates ticket : ℕ) → inOrder (commit updates) ticket paper ≡ commitFits walk updates ticket
-  unfolding inOrder
-  commit-test updates ticket =
-      ap (λ (n : ℕ). ltb 0 n && eqb updates n && eqb ticket (paper .ticket + 1)) group-count
-      ∙ ap (λ (n : ℕ). ltb 0 (walk .count) && eqb updates (walk .count) && eqb ticket (n + 1)) (sym (st .ticketIs))
-
-  pub clean-test : (page ticket : ℕ) → inOrder (clean page) ticket paper ≡ eqb ticket (walk .ticket)
-  unfolding inOrder
-  clean-test page ticket = ap (λ (n : ℕ). eqb ticket n) (sym (st .ticketIs))
-
--- a commit that closes its group
-pub commit-told : (walk : Walk) (updates ticket : ℕ) → commitFits walk updates ticket ≡ true → (0 < walk .count) × (ticket ≡ walk .ticket + 1)
-commit-told walk updates ticket f =
-    let a = and-both (ltb 0 (walk .count) && eqb updates (walk .count)) (eqb ticket (walk .ticket + 1)) f in
-    let b = and-both (ltb 0 (walk .count)) (eqb updates (walk .count)) (a .0) in
-    (ltb-true _ _ (b .0), eqb-true _ _ (a .1))
+  test-is : (kind : Kind) (ticket : ℕ) → inOrder kind ticket paper ≡ walkFits walk kind ticket
+  test-is kind ticket = order-is kind ticket (walk .count) (walk .ticket) paper (sym group-count) (st .ticketIs)
 
 refused-at : (walk : Walk) (r : Walk) (refusal place : ℕ) → r ≡ refusedAt walk refusal place → Refused r refusal place
 refused-at walk r refusal place e = record { refusalIs = ap (λ (w : Walk). w .refusal) e; placeIs = ap (λ (w : Walk). w .place) e }
@@ -157,14 +139,10 @@ module _ (log home : List ℕ) (s : ℕ) (walk : Walk) (frames : List ℕ) (v : 
         at-zero : (i : ℕ) → i < 1 → s ≡ s + i
         at-zero i h = omega arith
 
-    next-index : updateFits walk index ticket ≡ true → eqb index 1 ≡ false → (0 < walk .count) × (index ≡ walk .count + 1)
-    next-index f g =
-        let a = and-both (eqb index 1 || (ltb 0 (walk .count) && eqb index (walk .count + 1))) (eqb ticket (walk .ticket)) f .0 in
-        let b : (ltb 0 (walk .count) && eqb index (walk .count + 1)) ≡ true = ap (λ (t : Bool). t || (ltb 0 (walk .count) && eqb index (walk .count + 1))) (sym g) ∙ a in
-        let c = and-both (ltb 0 (walk .count)) (eqb index (walk .count + 1)) b in
-        (ltb-true _ _ (c .0), eqb-true _ _ (c .1))
+    next-index : walkFits walk (update index noUpdate) ticket ≡ true → eqb index 1 ≡ false → (0 < walk .count) × (index ≡ walk .count + 1)
+    next-index f g = next-told ticket (walk .count) (walk .ticket) index noUpdate f (eqb-false _ _ g)
 
-    ready-next : updateFits walk index ticket ≡ true → eqb index 1 ≡ false → Ready log home (suc s) (halfAt walk (walk .start) index)
+    ready-next : walkFits walk (update index noUpdate) ticket ≡ true → eqb index 1 ≡ false → Ready log home (suc s) (halfAt walk (walk .start) index)
     ready-next f g =
         let n = next-index f g in
         let end : walk .start + walk .count ≡ s = y .half (n .0) in
@@ -185,14 +163,14 @@ module _ (log home : List ℕ) (s : ℕ) (walk : Walk) (frames : List ℕ) (v : 
 
     -- by the two tests
     data Turn : Type 0 where
-      wrong : updateFits walk index ticket ≡ false → r ≡ refusedAt walk 8 s → Turn
-      first : updateFits walk index ticket ≡ true → eqb index 1 ≡ true → r ≡ halfAt walk s 1 → Turn
-      next : updateFits walk index ticket ≡ true → eqb index 1 ≡ false → r ≡ halfAt walk (walk .start) index → Turn
+      wrong : walkFits walk (update index noUpdate) ticket ≡ false → r ≡ refusedAt walk 8 s → Turn
+      first : walkFits walk (update index noUpdate) ticket ≡ true → eqb index 1 ≡ true → r ≡ halfAt walk s 1 → Turn
+      next : walkFits walk (update index noUpdate) ticket ≡ true → eqb index 1 ≡ false → r ≡ halfAt walk (walk .start) index → Turn
 
     taken : Turn
     unfolding ticket
     taken =
-        by-cases (updateFits walk index ticket)
+        by-cases (walkFits walk (update index noUpdate) ticket)
         (λ f. by-cases (eqb index 1)
         (λ g. first f g (e ∙ sym (updated-first walk s index ticket f g)))
         (λ g. next f g (e ∙ sym (updated-next walk s index ticket f g))))
@@ -208,15 +186,20 @@ module _ (log home : List ℕ) (s : ℕ) (walk : Walk) (frames : List ℕ) (v : 
     ready-then (first f g q) h = subst (Ready log home (suc s)) (sym q) ready-first
     ready-then (next f g q) h = subst (Ready log home (suc s)) (sym q) (ready-next f g)
 
+    in-order : (paper : PaperWalk) → Stands log home s walk frames paper
+        → inOrder (update index change) ticket paper ≡ walkFits walk (update index noUpdate) ticket
+    in-order paper st =
+        test-is log home s walk frames paper st (update index change) ticket ∙ change-any index ticket (walk .count) (walk .ticket) change noUpdate
+
     module _ (paper : PaperWalk) (st : Stands log home s walk frames paper) where
       refuses : Turn → inOrder (update index change) ticket paper ≡ false → Refused r 8 s
       refuses (wrong f q) h = refused-at walk r 8 s q
-      refuses (first f g q) h = absurd (never-both _ (update-test log home s walk frames paper st index ticket change ∙ f) h)
-      refuses (next f g q) h = absurd (never-both _ (update-test log home s walk frames paper st index ticket change ∙ f) h)
+      refuses (first f g q) h = absurd (never-both _ (in-order paper st ∙ f) h)
+      refuses (next f g q) h = absurd (never-both _ (in-order paper st ∙ f) h)
 
       goes : Turn → inOrder (update index change) ticket paper ≡ true → Stands log home (suc s) r frames (walkBlock (pageAt home) s (update index change) paper)
       unfolding walkBlock
-      goes (wrong f q) h = absurd (never-both _ h (update-test log home s walk frames paper st index ticket change ∙ f))
+      goes (wrong f q) h = absurd (never-both _ h (in-order paper st ∙ f))
       goes (first f g q) h = rw g (subst (λ (w : Walk). Stands log home (suc s) w frames one) (sym q) record {
         going = st .going;
         notFull = st .notFull;
@@ -271,12 +254,12 @@ module _ (log home : List ℕ) (s : ℕ) (walk : Walk) (frames : List ℕ) (v : 
       (e : Cleans walk s page (headerOf log s .ticket) r) where
     -- by its test
     data Cleaned : Type 0 where
-      bad : eqb (headerOf log s .ticket) (walk .ticket) ≡ false → r ≡ refusedAt walk 8 s → Cleaned
-      good : eqb (headerOf log s .ticket) (walk .ticket) ≡ true → (t : Table) → Drops (walk .table) page t → r ≡ closedWith walk (walk .ticket) t → Cleaned
+      bad : walkFits walk (clean page) (headerOf log s .ticket) ≡ false → r ≡ refusedAt walk 8 s → Cleaned
+      good : walkFits walk (clean page) (headerOf log s .ticket) ≡ true → (t : Table) → Drops (walk .table) page t → r ≡ closedWith walk (walk .ticket) t → Cleaned
 
     cleaned : Cleaned
     cleaned =
-        by-cases (eqb (headerOf log s .ticket) (walk .ticket))
+        by-cases (walkFits walk (clean page) (headerOf log s .ticket))
         (λ f. let g = e .right f in good f (g .0) (g .1) (g .2))
         (λ f. bad f (e .wrong f))
 
@@ -297,11 +280,11 @@ module _ (log home : List ℕ) (s : ℕ) (walk : Walk) (frames : List ℕ) (v : 
     module _ (paper : PaperWalk) (st : Stands log home s walk frames paper) where
       refuses-clean : Cleaned → inOrder (clean page) (headerOf log s .ticket) paper ≡ false → Refused r 8 s
       refuses-clean (bad f q) h = refused-at walk r 8 s q
-      refuses-clean (good f t d q) h = absurd (never-both _ (clean-test log home s walk frames paper st page (headerOf log s .ticket) ∙ f) h)
+      refuses-clean (good f t d q) h = absurd (never-both _ (test-is log home s walk frames paper st (clean page) (headerOf log s .ticket) ∙ f) h)
 
       goes-clean : Cleaned → inOrder (clean page) (headerOf log s .ticket) paper ≡ true → Stands log home (suc s) r frames (walkBlock (pageAt home) s (clean page) paper)
       unfolding walkBlock updatesFrom
-      goes-clean (bad f q) h = absurd (never-both _ h (clean-test log home s walk frames paper st page (headerOf log s .ticket) ∙ f))
+      goes-clean (bad f q) h = absurd (never-both _ h (test-is log home s walk frames paper st (clean page) (headerOf log s .ticket) ∙ f))
       goes-clean (good f t d q) h = subst (λ (w : Walk). Stands log home (suc s) w frames left) (sym q) record {
         going = st .going;
         notFull = d .fullIs ∙ st .notFull;
@@ -341,17 +324,17 @@ module _ (log home : List ℕ) (s : ℕ) (walk : Walk) (frames : List ℕ) (v : 
 
     -- by its test, and by whether a page found no frame
     data Committed : Type 0 where
-      bad : commitFits walk updates (headerOf log s .ticket) ≡ false → r ≡ refusedAt walk 8 s → Committed
-      full : commitFits walk updates (headerOf log s .ticket) ≡ true → (t : Table)
+      bad : walkFits walk (commit updates) (headerOf log s .ticket) ≡ false → r ≡ refusedAt walk 8 s → Committed
+      full : walkFits walk (commit updates) (headerOf log s .ticket) ≡ true → (t : Table)
           → AppliesAll (walk .table) home frames (updatesFrom log (walk .start) (walk .count)) (walk .start) t frames′
           → t .full ≡ true → r ≡ refusedAt (closedWith walk (headerOf log s .ticket) t) 9 s → Committed
-      good : commitFits walk updates (headerOf log s .ticket) ≡ true → (t : Table)
+      good : walkFits walk (commit updates) (headerOf log s .ticket) ≡ true → (t : Table)
           → AppliesAll (walk .table) home frames (updatesFrom log (walk .start) (walk .count)) (walk .start) t frames′
           → t .full ≡ false → r ≡ closedWith walk (headerOf log s .ticket) t → Committed
 
     committed : Committed
     committed =
-        by-cases (commitFits walk updates (headerOf log s .ticket))
+        by-cases (walkFits walk (commit updates) (headerOf log s .ticket))
         (λ f. let g = e .right f in by-cases (g .0 .full)
         (λ h. full f (g .0) (g .1) h (g .2 ∙ ap (λ (b : Bool). cond b (refusedAt (closedWith walk (headerOf log s .ticket) (g .0)) 9 s) (closedWith walk (headerOf log s .ticket) (g .0))) h))
         (λ h. good f (g .0) (g .1) h (g .2 ∙ ap (λ (b : Bool). cond b (refusedAt (closedWith walk (headerOf log s .ticket) (g .0)) 9 s) (closedWith walk (headerOf log s .ticket) (g .0))) h)))
@@ -390,13 +373,13 @@ module _ (log home : List ℕ) (s : ℕ) (walk : Walk) (frames : List ℕ) (v : 
 
       refuses-commit : Committed → inOrder (commit updates) (headerOf log s .ticket) paper ≡ false → Refused r 8 s
       refuses-commit (bad f q) h = refused-at walk r 8 s q
-      refuses-commit (full f t a g q) h = absurd (never-both _ (commit-test log home s walk frames paper st updates (headerOf log s .ticket) ∙ f) h)
-      refuses-commit (good f t a g q) h = absurd (never-both _ (commit-test log home s walk frames paper st updates (headerOf log s .ticket) ∙ f) h)
+      refuses-commit (full f t a g q) h = absurd (never-both _ (test-is log home s walk frames paper st (commit updates) (headerOf log s .ticket) ∙ f) h)
+      refuses-commit (good f t a g q) h = absurd (never-both _ (test-is log home s walk frames paper st (commit updates) (headerOf log s .ticket) ∙ f) h)
 
       lacks-frames : Committed → inOrder (commit updates) (headerOf log s .ticket) paper ≡ true
           → framed (walk .table .count) (pageAt home) (commit updates) paper ≡ false → Refused r 9 s
       unfolding after
-      lacks-frames (bad f q) h n = absurd (never-both _ h (commit-test log home s walk frames paper st updates (headerOf log s .ticket) ∙ f))
+      lacks-frames (bad f q) h n = absurd (never-both _ h (test-is log home s walk frames paper st (commit updates) (headerOf log s .ticket) ∙ f))
       lacks-frames (full f t a g q) h n = refused-at (closedWith walk (headerOf log s .ticket) t) r 9 s q
       lacks-frames (good f t a g q) h n =
           absurd (never-both _ (a .fills (paper .dirtyPages) (st .notFull) (st .holds) (leb-false _ _ (sym room ∙ n))) g)
@@ -405,7 +388,7 @@ module _ (log home : List ℕ) (s : ℕ) (walk : Walk) (frames : List ℕ) (v : 
           → framed (walk .table .count) (pageAt home) (commit updates) paper ≡ true
           → Stands log home (suc s) r frames′ (walkBlock (pageAt home) s (commit updates) paper)
       unfolding walkBlock updatesFrom after
-      goes-commit (bad f q) h n = absurd (never-both _ h (commit-test log home s walk frames paper st updates (headerOf log s .ticket) ∙ f))
+      goes-commit (bad f q) h n = absurd (never-both _ h (test-is log home s walk frames paper st (commit updates) (headerOf log s .ticket) ∙ f))
       goes-commit (full f t a g q) h n =
           absurd (never-both _ g (a .fits (paper .dirtyPages) (st .notFull) (st .holds) (leb-true _ _ (sym room ∙ n)) .0))
       goes-commit (good f t a g q) h n =
@@ -414,12 +397,12 @@ module _ (log home : List ℕ) (s : ℕ) (walk : Walk) (frames : List ℕ) (v : 
           (subst (λ (w : Walk). Stands log home (suc s) w frames′ (settled after)) (sym q) record {
             going = st .going;
             notFull = g;
-            ticketIs = commit-told walk updates (headerOf log s .ticket) f .1 ∙ ap (λ (n : ℕ). n + 1) (st .ticketIs);
+            ticketIs = commit-told (headerOf log s .ticket) (walk .count) (walk .ticket) updates f .1 ∙ ap (λ (n : ℕ). n + 1) (st .ticketIs);
             startIs = refl;
             groupIs = refl;
             holds = held .1;
             early = each-group (Early (pagesIn (length home)) (suc s)) log (pageAt home) (walk .start) (walk .start) (walk .count) (paper .dirtyPages)
-                (λ i x. (page-below i x, y .begins (commit-told walk updates (headerOf log s .ticket) f .0), omega (arith, y .half (commit-told walk updates (headerOf log s .ticket) f .0))))
+                (λ i x. (page-below i x, y .begins (commit-told (headerOf log s .ticket) (walk .count) (walk .ticket) updates f .0), omega (arith, y .half (commit-told (headerOf log s .ticket) (walk .count) (walk .ticket) updates f .0))))
                 (early-later _ s (paper .dirtyPages) (st .early));
           })
         where

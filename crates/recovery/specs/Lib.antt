@@ -1,3 +1,4 @@
 pub mod Log
+pub mod Order
 pub mod Slots
 pub mod Walking

@@ -2,12 +2,13 @@
 -- Assumes nothing.
 use Prim.Native.Nat.{ℕ, suc, _+_, _-_, _≤_, _<_}
 use mathlib.Core.Path.{_≡_}
-use mathlib.Core.Bool.{Bool, true, false, cond, _&&_, _||_}
+use mathlib.Core.Bool.{Bool, true, false, cond}
 use mathlib.Core.List.{List}
 use lib.ListN.{length}
-use lib.Dec.{eqb, ltb, leb}
+use lib.Dec.{eqb, leb}
 use Rattle.promises.specs.Areas.{pageAt, pagesIn}
-use Rattle.promises.specs.Blocks.{Kind}
+use Rattle.promises.specs.Blocks.{Kind, update, commit, clean}
+use Rattle.promises.specs.LogStep.{noUpdate}
 use Rattle.promises.specs.Sums.{firstGroups, smallest}
 use Rattle.promises.specs.Walk.{Walk as PaperWalk, walkBlock, inOrder, framed, Finding, stops, walkFrom}
 use Rattle.table.specs.declared.Table.{Table}
@@ -15,6 +16,7 @@ use Rattle.table.specs.Table.{Holds, Each, AppliesAll, Drops}
 use Rattle.table.specs.Seats.{seated}
 use Rattle.recovery.specs.declared.Stage.{Stage}
 use Rattle.recovery.specs.Log.{headerOf, updatesFrom, blocksFrom, Placed}
+use Rattle.recovery.specs.Order.{inOrderAfter}
 
 -- ---- where the code's walk stands
 
@@ -66,27 +68,27 @@ halfAt walk start count =
 abbrev pub closedWith : Walk → ℕ → Table → Walk
 closedWith walk ticket table = record { refusal = walk .refusal; place = walk .place; ticket = ticket; start = 0; count = 0; table = table }
 
--- an update's index is 1 or the next of the half group, a commit closes its group, and the ticket is right
-abbrev pub updateFits : Walk → ℕ → ℕ → Bool
-updateFits walk index ticket = (eqb index 1 || (ltb 0 (walk .count) && eqb index (walk .count + 1))) && eqb ticket (walk .ticket)
-
-abbrev pub commitFits : Walk → ℕ → ℕ → Bool
-commitFits walk updates ticket = ltb 0 (walk .count) && eqb updates (walk .count) && eqb ticket (walk .ticket + 1)
+-- a block is in order
+abbrev pub walkFits : Walk → Kind → ℕ → Bool
+walkFits walk kind ticket = inOrderAfter kind ticket (walk .count) (walk .ticket)
 
 -- an update is walked over
 unfoldable pub updated : Walk → ℕ → ℕ → ℕ → Walk
 updated walk sequence index ticket =
-    cond (updateFits walk index ticket) (cond (eqb index 1) (halfAt walk sequence 1) (halfAt walk (walk .start) index)) (refusedAt walk 8 sequence)
+    cond (walkFits walk (update index noUpdate) ticket)
+    (cond (eqb index 1) (halfAt walk sequence 1) (halfAt walk (walk .start) index))
+    (refusedAt walk 8 sequence)
 
--- a clean is
+-- a clean is walked over
 pub record Cleans (walk : Walk) (sequence page ticket : ℕ) (result : Walk) : Type 0 where
-  pub wrong : eqb ticket (walk .ticket) ≡ false → result ≡ refusedAt walk 8 sequence
-  pub right : eqb ticket (walk .ticket) ≡ true → (table : Table) × Drops (walk .table) page table × (result ≡ closedWith walk (walk .ticket) table)
+  pub wrong : walkFits walk (clean page) ticket ≡ false → result ≡ refusedAt walk 8 sequence
+  pub right : walkFits walk (clean page) ticket ≡ true
+      → (table : Table) × Drops (walk .table) page table × (result ≡ closedWith walk (walk .ticket) table)
 
--- a commit is: its group takes effect; where a page found no frame, this is 9
+-- a commit is walked over: its group takes effect; where a page found no frame, this is 9
 pub record Commits (log home : List ℕ) (walk : Walk) (frames : List ℕ) (sequence updates ticket : ℕ) (result : Walk) (frames′ : List ℕ) : Type 0 where
-  pub wrong : commitFits walk updates ticket ≡ false → result ≡ refusedAt walk 8 sequence
-  pub right : commitFits walk updates ticket ≡ true
+  pub wrong : walkFits walk (commit updates) ticket ≡ false → result ≡ refusedAt walk 8 sequence
+  pub right : walkFits walk (commit updates) ticket ≡ true
       → (table : Table) × AppliesAll (walk .table) home frames (updatesFrom log (walk .start) (walk .count)) (walk .start) table frames′
       × (result ≡ cond (table .full) (refusedAt (closedWith walk ticket table) 9 sequence) (closedWith walk ticket table))
 

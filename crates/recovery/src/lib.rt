@@ -1,14 +1,15 @@
 // Open's reading of a log: every slot judged once, the lowest missing block, a damaged end, and the walk from keep-from to the newest
 // block. It knows blocks through the block crate's contracts, and dirty pages through the table's.
+pub mod order;
+
 use block::Block;
 use block::Judged;
 use block::Kind;
 ghost use mathlib.Core.Path.{_≡_};
 ghost use mathlib.Core.List.{List};
-ghost use mathlib.Core.Bool.{true, false, not, _&&_, _||_};
-ghost use Prim.Native.Nat.{ℕ, suc, _+_, _-_, _*_, _^_, _≤_, _<_, max};
+ghost use mathlib.Core.Bool.{true, false, not};
+ghost use Prim.Native.Nat.{ℕ, _+_, _-_, _*_, _≤_, _<_, max};
 ghost use lib.ListN.{length};
-ghost use lib.Dec.{eqb, ltb, leb};
 ghost use Rattle.block.specs.Sizes.{blockSize, pageSize, sequenceEnd};
 ghost use Rattle.block.specs.Legal.{slotOf};
 ghost use Rattle.block.specs.Slot.{judged};
@@ -24,8 +25,6 @@ ghost use Rattle.recovery.specs.Walking.{
   stageRefused,
   stageHalf,
   stageClosed,
-  updateFits,
-  commitFits,
   updated,
   Cleans,
   Commits,
@@ -265,28 +264,12 @@ fn closed(stage: Stage, ticket: u64) -> Stage
     w
 }
 
-// Whether an update's index is 1 or the next of the half group, and its ticket right.
-fn update_fits(stage: Stage, index: usize, ticket: u64) -> bool
-    requires { ⌜ stage .count < sequenceEnd ⌝ }
-    ensures { λ r. ⌜ ((seats : List ℕ) → r ≡ updateFits (walkOf stage seats) index ticket) ⌝ }
-{
-    ((index == 1) | ((0 < stage.count) & (index == stage.count + 1))) & (ticket == stage.ticket)
-}
-
-// Whether a commit closes its group, and its ticket is right.
-fn commit_fits(stage: Stage, updates: usize, ticket: u64) -> bool
-    requires { ⌜ stage .ticket < sequenceEnd ⌝ }
-    ensures { λ r. ⌜ ((seats : List ℕ) → r ≡ commitFits (walkOf stage seats) updates ticket) ⌝ }
-{
-    (0 < stage.count) & (updates == stage.count) & (ticket == stage.ticket + 1)
-}
-
 // An update is walked over: a new index 1 voids a half group.
 fn walk_update(stage: Stage, sequence: u64, index: usize, ticket: u64) -> Stage
     requires { ⌜ (stage .count < sequenceEnd) × (stage .refusal ≡ 0) ⌝ }
     ensures { λ r. ⌜ ((seats : List ℕ) → walkOf r seats ≡ updated (walkOf stage seats) sequence index ticket) ⌝ }
 {
-    if !update_fits(stage, index, ticket) {
+    if !order::update_fits(index, ticket, stage.count, stage.ticket) {
         return refused(stage, 8, sequence);
     }
     if index == 1 {
@@ -300,7 +283,7 @@ fn walk_clean(stage: Stage, seats: &mut [u64], s: u64, page: usize, ticket: u64)
     requires { ⌜ (length (now seats) ≤ 32) × (stage .refusal ≡ 0) ⌝ }
     ensures { λ r. ⌜ Cleans (walkOf stage (now (seats .entry))) s page ticket (walkOf r (now (seats .exit))) ⌝ }
 {
-    if ticket != stage.ticket {
+    if !order::clean_fits(ticket, stage.ticket) {
         return refused(stage, 8, s);
     }
     table::seats::drop_page(seats, page);
@@ -321,7 +304,7 @@ fn walk_commit(
     requires { ⌜ (length (now seats) ≤ 32) × (length (now frames) ≡ length (now seats) * pageSize) × (blockSize ≤ length (now log)) × (pagesIn (length (now home)) ≤ 4096) × (s < sequenceEnd) × (stage .refusal ≡ 0) × Ready (now log) (now home) s (walkOf stage (now seats)) ⌝ }
     ensures { λ r. ⌜ Commits (now (log .entry)) (now (home .entry)) (walkOf stage (now (seats .entry))) (now (frames .entry)) s updates ticket (walkOf r (now (seats .exit))) (now (frames .exit)) ⌝ }
 {
-    if !commit_fits(stage, updates, ticket) {
+    if !order::commit_fits(updates, ticket, stage.count, stage.ticket) {
         return refused(stage, 8, s);
     }
     let fits = apply_group(seats, log, home, frames, stage.start, stage.count);

@@ -5,7 +5,8 @@ use native.Mathlib.Omega.{arith}
 use borrow.Author.Needs.{needs}
 use Rattle.block.specs.declared.Kind.the-variants.{Update, Commit, Clean}
 use Rattle.block.specs.declared.Kind.{Kind}
-use Rattle.outline.specs.Outline.{Indexed, follows, seated, after, turned, outlineIn}
+use Rattle.promises.specs.Walk.{inOrder}
+use Rattle.outline.specs.Outline.{Indexed, seated, after, turned, outlineIn}
 use Rattle.outline.proofs.Turning.{step-stops, step-turns}
 use Rattle.outline.proofs.turn.Statement.{statement}
 use Rattle.outline.proofs.turn.Tie as tie
@@ -40,7 +41,7 @@ walk-clean-requires : tie.Need-walk-clean-requires
 walk-clean-requires c κs = search needs
 
 returns-2 : tie.Need-returns-2
-unfolding turned follows seated after
+unfolding turned inOrder seated after
 returns-2 c =
     let a = (c .before .before .before .before .before .before) .args in
     step-turns (a .block) (Update ((c .before .before) .kind .given .0 .0) ((c .before .before) .kind .given .0 .1 .0) 0 0) (a .course) _ ((c .before .before .before .before) .if1 .left)
@@ -48,7 +49,7 @@ returns-2 c =
     (c .walk-update .ensures)
 
 returns-3 : tie.Need-returns-3
-unfolding turned follows seated after
+unfolding turned inOrder seated after
 returns-3 c =
     let a = (c .before .before .before .before .before .before) .args in
     step-turns (a .block) (Commit ((c .before .before) .kind2 .given .0 .0)) (a .course) _ ((c .before .before .before .before) .if1 .left)
@@ -56,7 +57,7 @@ returns-3 c =
     (c .walk-commit .ensures)
 
 returns-4 : tie.Need-returns-4
-unfolding turned follows seated after
+unfolding turned inOrder seated after
 returns-4 c =
     let a = (c .before .before .before .before .before .before) .args in
     step-turns (a .block) (Clean ((c .before .before) .kind3 .given .0 .0)) (a .course) _ ((c .before .before .before .before) .if1 .left)
