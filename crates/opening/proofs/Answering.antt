@@ -59,10 +59,10 @@ lengths-told log home frames staging h =
 
 module _ (log home : List ℕ) (count : ℕ) (found : FoundWalk) (frames : List ℕ) (slots pages : ℕ)
     (x : Finds log home count (finding slots pages count log home) found frames) where
-  pub refusal-range : (found .walk .refusal ≡ 0 → ⊥) → (7 ≤ found .walk .refusal) × (found .walk .refusal ≤ 9)
-  refusal-range n = finding-refusals slots pages count log home (found .walk .refusal) (found .walk .place) (x .refused n)
+  pub refusal-range : (found .walk .stage .refusal ≡ 0 → ⊥) → (7 ≤ found .walk .stage .refusal) × (found .walk .stage .refusal ≤ 9)
+  refusal-range n = finding-refusals slots pages count log home (found .walk .stage .refusal) (found .walk .stage .place) (x .refused n)
 
-  pub next-fits : found .walk .refusal ≡ 0 → found .newest + 1 ≤ 2 ^ 48
+  pub next-fits : found .walk .stage .refusal ≡ 0 → found .newest + 1 ≤ 2 ^ 48
   next-fits z = omega (arith, x .accepted z .newestBelow)
 
 -- ---- the frames' entries: none was in use before
@@ -127,25 +127,25 @@ module _ (log home frames staging : List ℕ) (r : OpenOutcome) (frames′ : Lis
     told = lengths-told (length log) (length home) (length frames) (length staging) fit
 
     -- after 7, 8 and 9 the frames are zero
-    pub opens-refused : (found .walk .refusal ≡ 0 → ⊥) → openAnswered (r .answer) ≡ refuses (found .walk .refusal) → placeIn (r .answer) ≡ found .walk .place
+    pub opens-refused : (found .walk .stage .refusal ≡ 0 → ⊥) → openAnswered (r .answer) ≡ refuses (found .walk .stage .refusal) → placeIn (r .answer) ≡ found .walk .stage .place
         → r .state ≡ allZeroState → length mid ≡ length frames → frames′ ≡ replicate (length mid) 0 → Opens log home frames staging r frames′
     opens-refused n a p s l f =
-        opens-stopped (found .walk .refusal) (found .walk .place) (by-lengths true fit ∙ x .refused n)
+        opens-stopped (found .walk .stage .refusal) (found .walk .stage .place) (by-lengths true fit ∙ x .refused n)
         record {
           answerIs = a;
           placeIs = p;
           stateIs = s;
           framesAre = f ∙ ap (λ (m : ℕ). replicate m 0) l
-              ∙ sym (ap (λ (b : Bool). cond b frames (replicate (length frames) 0)) (ne-eqb (found .walk .refusal) 1 (λ q. absurd (omega (arith, refusal-range log home (framesIn (length frames)) found mid (slotsIn (length log)) (pagesIn (length home)) x n .0)))));
+              ∙ sym (ap (λ (b : Bool). cond b frames (replicate (length frames) 0)) (ne-eqb (found .walk .stage .refusal) 1 (λ q. absurd (omega (arith, refusal-range log home (framesIn (length frames)) found mid (slotsIn (length log)) (pagesIn (length home)) x n .0)))));
         }
 
     -- an accepted Open's state is sound, whatever the log holds
-    module _ (z : found .walk .refusal ≡ 0) where
+    module _ (z : found .walk .stage .refusal ≡ 0) where
       abbrev acc : Accepts log home (finding (slotsIn (length log)) (pagesIn (length home)) (framesIn (length frames)) log home) found mid
       acc = x .accepted z
 
       abbrev state : State
-      state = openedState (pagesIn (length home)) (slotsIn (length log)) (framesIn (length frames)) (found .newest + 1) (found .walk .ticket) (found .walk .table .dirty)
+      state = openedState (pagesIn (length home)) (slotsIn (length log)) (framesIn (length frames)) (found .newest + 1) (found .walk .stage .ticket) (found .walk .table .dirty)
 
       below : (es : List DirtyPage) → Each (Early (pagesIn (length home)) (found .newest + 1)) es → Each (Below (pagesIn (length home)) (found .newest + 1)) es
       below [] e = tt
@@ -189,7 +189,7 @@ module _ (log home frames staging : List ℕ) (r : OpenOutcome) (frames′ : Lis
         sequenceSum = omega (arith, acc .newestBelow);
       }
 
-      pub opens-accepted : openAnswered (r .answer) ≡ settles (found .walk .ticket) → r .state ≡ state → length (found .walk .table .dirty) ≡ 32
+      pub opens-accepted : openAnswered (r .answer) ≡ settles (found .walk .stage .ticket) → r .state ≡ state → length (found .walk .table .dirty) ≡ 32
           → ((f : ℕ) → getD (found .walk .table .dirty) f free .first ≡ 0 → getD (found .walk .table .dirty) f free ≡ free) → length mid ≡ length frames → frames′ ≡ mid
           → Opens log home frames staging r frames′
       unfolding grouped

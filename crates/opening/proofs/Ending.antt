@@ -26,11 +26,11 @@ use Rattle.opening.specs.Findings.{foundOf, stageStart, startOf, foundSt
 module _ (count : ℕ) (seats : List ℕ) (h : count ≤ 32) (e : seats ≡ replicate count 0) where
   pub start-is : (ticket : ℕ) → walkOf (stageStart ticket) seats ≡ startOf count ticket
   start-is ticket =
-      ap (λ (t : Table). record { refusal = 0; place = 0; ticket = ticket; start = 0; count = 0; table = t }) (seated-empty false count seats h e)
+      ap (λ (t : Table). record { stage = stageStart ticket; table = t }) (seated-empty false count seats h e)
 
   pub stopped-is : (place : ℕ) → foundOf (foundStopped place) seats ≡ stoppedAt count place
   stopped-is place =
-      ap (λ (t : Table). record { newest = 0; walk = record { refusal = 7; place = place; ticket = 0; start = 0; count = 0; table = t } })
+      ap (λ (t : Table). record { newest = 0; walk = record { stage = foundStopped place .stage; table = t } })
       (seated-empty false count seats h e)
 
 -- ---- the start
@@ -73,17 +73,17 @@ span-is log home s walk frames paper slots next st =
     ∙ ap (λ (d : ℕ). leb (next - keepFromOf next (paper .dirtyPages) + d) slots) (held-count (walk .table) frames (paper .dirtyPages) (st .holds))
 
 module _ (log home : List ℕ) (last : ℕ) (walk : Walk) (frames : List ℕ) (found : Finding) (below : last < sequenceEnd)
-    (ready : walk .refusal ≡ 0 → Ready log home (last + 1) walk)
+    (ready : walk .stage .refusal ≡ 0 → Ready log home (last + 1) walk)
     (l : Leads log home (slotsIn (length log)) (last + 1) (last + 1) 0 walk frames found) where
   abbrev N : ℕ
   N = slotsIn (length log)
 
   -- what the walk over no more blocks finds
-  over : (z : walk .refusal ≡ 0) → ending N (last + 1) (l .goes z .0) ≡ found
+  over : (z : walk .stage .refusal ≡ 0) → ending N (last + 1) (l .goes z .0) ≡ found
   unfolding walkFrom blocksFrom
   over z = l .goes z .2
 
-  passes : (z : walk .refusal ≡ 0) → spanFits (walk .table) N (last + 1) ≡ true → Finds log home (walk .table .count) found (record { newest = last; walk = walk }) frames
+  passes : (z : walk .stage .refusal ≡ 0) → spanFits (walk .table) N (last + 1) ≡ true → Finds log home (walk .table .count) found (record { newest = last; walk = walk }) frames
   passes z f =
       let st : Stands log home (last + 1) walk frames (l .goes z .0) = l .goes z .1 in
       record {
@@ -100,7 +100,7 @@ module _ (log home : List ℕ) (last : ℕ) (walk : Walk) (frames : List ℕ) (f
         };
       }
 
-  fails : (z : walk .refusal ≡ 0) → spanFits (walk .table) N (last + 1) ≡ false
+  fails : (z : walk .stage .refusal ≡ 0) → spanFits (walk .table) N (last + 1) ≡ false
       → Finds log home (walk .table .count) found (record { newest = last; walk = refusedAt walk 8 last }) frames
   fails z f =
       let st : Stands log home (last + 1) walk frames (l .goes z .0) = l .goes z .1 in
@@ -118,7 +118,7 @@ module _ (log home : List ℕ) (last : ℕ) (walk : Walk) (frames : List ℕ) (f
   pub ends : (r : Walk) → r ≡ tested N last walk → Finds log home (walk .table .count) found (record { newest = last; walk = r }) frames
   ends r e =
       subst (λ (w : Walk). Finds log home (walk .table .count) found (record { newest = last; walk = w }) frames) (sym e)
-      (elim (ℕ-discrete (walk .refusal) 0) [
+      (elim (ℕ-discrete (walk .stage .refusal) 0) [
         | yes z ↦ by-cases (spanFits (walk .table) N (last + 1))
             (λ f. subst (λ (w : Walk). Finds log home (walk .table .count) found (record { newest = last; walk = w }) frames) (tested-by N last walk true z f) (passes z f))
             (λ f. subst (λ (w : Walk). Finds log home (walk .table .count) found (record { newest = last; walk = w }) frames) (tested-by N last walk false z f) (fails z f))

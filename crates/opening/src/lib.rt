@@ -62,13 +62,7 @@ fn stopped(place: u64) -> Found
 {
     Found {
         newest: 0,
-        stage: Stage {
-            refusal: 7,
-            place,
-            ticket: 0,
-            start: 0,
-            count: 0,
-        },
+        stage: recovery::refused(started(0), 7, place),
     }
 }
 

@@ -3,7 +3,7 @@
 // written here.
 ghost use mathlib.Core.Path.{_≡_};
 ghost use Rattle.promises.specs.Answers.{numberOf};
-ghost use Rattle.promises.specs.Contents.{allZeroState};
+ghost use Rattle.promises.specs.States.{allZeroState};
 
 // What a frame holds: a dirty page and its first group. First group 0: the frame is free.
 pub struct Dirty {

@@ -30,13 +30,13 @@ module _ (walk : Walk) (s index ticket : ℕ) where
 
   pub updated-first : walkFits walk (update index noUpdate) ticket ≡ true → eqb index 1 ≡ true → halfAt walk s 1 ≡ updated walk s index ticket
   unfolding updated
-  updated-first e f = sym (ap (λ (b : Bool). cond b (cond (eqb index 1) (halfAt walk s 1) (halfAt walk (walk .start) index)) (refusedAt walk 8 s)) e
-      ∙ ap (λ (b : Bool). cond b (halfAt walk s 1) (halfAt walk (walk .start) index)) f)
+  updated-first e f = sym (ap (λ (b : Bool). cond b (cond (eqb index 1) (halfAt walk s 1) (halfAt walk (walk .stage .start) index)) (refusedAt walk 8 s)) e
+      ∙ ap (λ (b : Bool). cond b (halfAt walk s 1) (halfAt walk (walk .stage .start) index)) f)
 
-  pub updated-next : walkFits walk (update index noUpdate) ticket ≡ true → eqb index 1 ≡ false → halfAt walk (walk .start) index ≡ updated walk s index ticket
+  pub updated-next : walkFits walk (update index noUpdate) ticket ≡ true → eqb index 1 ≡ false → halfAt walk (walk .stage .start) index ≡ updated walk s index ticket
   unfolding updated
-  updated-next e f = sym (ap (λ (b : Bool). cond b (cond (eqb index 1) (halfAt walk s 1) (halfAt walk (walk .start) index)) (refusedAt walk 8 s)) e
-      ∙ ap (λ (b : Bool). cond b (halfAt walk s 1) (halfAt walk (walk .start) index)) f)
+  updated-next e f = sym (ap (λ (b : Bool). cond b (cond (eqb index 1) (halfAt walk s 1) (halfAt walk (walk .stage .start) index)) (refusedAt walk 8 s)) e
+      ∙ ap (λ (b : Bool). cond b (halfAt walk s 1) (halfAt walk (walk .stage .start) index)) f)
 
 -- ---- a clean
 
@@ -44,7 +44,7 @@ module _ (walk : Walk) (s page ticket : ℕ) (r : Walk) where
   pub cleans-wrong : walkFits walk (clean page) ticket ≡ false → r ≡ refusedAt walk 8 s → Cleans walk s page ticket r
   cleans-wrong n e = record { wrong = λ f. e; right = λ f. absurd (never-both _ f n) }
 
-  pub cleans-right : (t : Table) → walkFits walk (clean page) ticket ≡ true → Drops (walk .table) page t → r ≡ closedWith walk (walk .ticket) t
+  pub cleans-right : (t : Table) → walkFits walk (clean page) ticket ≡ true → Drops (walk .table) page t → r ≡ closedWith walk (walk .stage .ticket) t
       → Cleans walk s page ticket r
   cleans-right t q d e = record { wrong = λ f. absurd (never-both _ q f); right = λ f. (t, d, e) }
 
@@ -55,7 +55,7 @@ module _ (log home : List ℕ) (walk : Walk) (frames : List ℕ) (s updates tick
   commits-wrong n e = record { wrong = λ f. e; right = λ f. absurd (never-both _ f n) }
 
   pub commits-right : (t : Table) → walkFits walk (commit updates) ticket ≡ true
-      → AppliesAll (walk .table) home frames (updatesFrom log (walk .start) (walk .count)) (walk .start) t frames′
+      → AppliesAll (walk .table) home frames (updatesFrom log (walk .stage .start) (walk .stage .count)) (walk .stage .start) t frames′
       → r ≡ cond (t .full) (refusedAt (closedWith walk ticket t) 9 s) (closedWith walk ticket t) → Commits log home walk frames s updates ticket r frames′
   commits-right t q a e = record { wrong = λ f. absurd (never-both _ q f); right = λ f. (t, a, e) }
 
@@ -71,11 +71,11 @@ cleans-as walk s page ticket ticket′ r e x = subst (λ (t : ℕ). Cleans walk 
 -- ---- the last test
 
 module _ (slots last : ℕ) (walk : Walk) where
-  pub tested-not : (walk .refusal ≡ 0 → ⊥) → walk ≡ tested slots last walk
+  pub tested-not : (walk .stage .refusal ≡ 0 → ⊥) → walk ≡ tested slots last walk
   unfolding tested
   tested-not n = sym (ap (λ (b : Bool). cond b (cond (spanFits (walk .table) slots (last + 1)) walk (refusedAt walk 8 last)) walk) (ne-eqb _ _ n))
 
-  pub tested-by : (b : Bool) → walk .refusal ≡ 0 → spanFits (walk .table) slots (last + 1) ≡ b → cond b walk (refusedAt walk 8 last) ≡ tested slots last walk
+  pub tested-by : (b : Bool) → walk .stage .refusal ≡ 0 → spanFits (walk .table) slots (last + 1) ≡ b → cond b walk (refusedAt walk 8 last) ≡ tested slots last walk
   unfolding tested
   tested-by b e f =
       sym (ap (λ (c : Bool). cond c (cond (spanFits (walk .table) slots (last + 1)) walk (refusedAt walk 8 last)) walk) (eq-eqb _ _ e)

@@ -34,7 +34,7 @@ module _ (slots frames : ℕ) (home : ℕ → List ℕ) (next s : ℕ) (block : 
 leads-refused : (log home : List ℕ) (slots next s more : ℕ) (walk : Walk) (frames : List ℕ) (found : Finding) (refusal place : ℕ) → 0 < refusal
     → Refused walk refusal place → found ≡ stops refusal place → Leads log home slots next s more walk frames found
 leads-refused log home slots next s more walk frames found refusal place h r e = record {
-  refused = λ n. e ∙ sym (ap (λ (x : ℕ). stops x (walk .place)) (r .refusalIs) ∙ ap (stops refusal) (r .placeIs));
+  refused = λ n. e ∙ sym (ap (λ (x : ℕ). stops x (walk .stage .place)) (r .refusalIs) ∙ ap (stops refusal) (r .placeIs));
   goes = λ z. absurd (omega (arith, r .refusalIs));
 }
 
@@ -44,7 +44,7 @@ pub leads-turn : (log home : List ℕ) (slots next s more : ℕ) (walk r : Walk)
     → Leads log home slots next s (suc more) walk frames found → Leads log home slots next (suc s) more r frames′ found
 unfolding blocksFrom
 leads-turn log home slots next s more walk r frames frames′ found t l =
-    elim (ℕ-discrete (walk .refusal) 0) [
+    elim (ℕ-discrete (walk .stage .refusal) 0) [
       | yes z ↦ going (l .goes z .0) (l .goes z .1) (l .goes z .2)
       | no n ↦ subst (λ (w : Walk). Leads log home slots next (suc s) more w frames′ found) (sym (t .stays n))
           record { refused = λ m. l .refused n; goes = λ z. absurd (n z) }

@@ -20,7 +20,7 @@ module _ (stage : Stage) (seats : List ℕ) (z : stage .refusal ≡ 0) where
   -- a walk that is refused with 8 now
   pub refuses-at : (place : ℕ) → walkOf (stageRefused stage 8 place) seats ≡ refusedAt (walkOf stage seats) 8 place
   refuses-at place =
-      ap (λ (b : Bool). record { refusal = 8; place = place; ticket = stage .ticket; start = stage .start; count = stage .count; table = seated b seats })
+      ap (λ (b : Bool). record { stage = stageRefused stage 8 place; table = seated b seats })
       (sym not-nine)
 
   pub refuses-as : (place : ℕ) (r : Stage) → r ≡ stageRefused stage 8 place → walkOf r seats ≡ refusedAt (walkOf stage seats) 8 place
@@ -51,5 +51,5 @@ module _ (log home : List ℕ) (stage : Stage) (seats frames : List ℕ) (s upda
   commits-room f =
       commits-right log home (walkOf stage seats) frames s updates ticket (walkOf w seats′) frames′ (seated false seats′) fit (applied true f)
       (ap (λ (x : Stage). walkOf x seats′) e
-      ∙ ap (λ (b : Bool). record { refusal = stage .refusal; place = stage .place; ticket = ticket; start = 0; count = 0; table = seated b seats′ })
+      ∙ ap (λ (b : Bool). record { stage = stageClosed stage ticket; table = seated b seats′ })
       (not-nine stage seats z))

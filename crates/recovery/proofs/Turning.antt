@@ -79,20 +79,20 @@ each-group Q log home group s (suc n) es f x =
 -- ---- what the code's tests say of the paper's walk
 
 module _ (log home : List ℕ) (s : ℕ) (walk : Walk) (frames : List ℕ) (paper : PaperWalk) (st : Stands log home s walk frames paper) where
-  group-count : length (paper .group) ≡ walk .count
-  group-count = ap length (sym (st .groupIs)) ∙ group-length log (walk .start) (walk .count)
+  group-count : length (paper .group) ≡ walk .stage .count
+  group-count = ap length (sym (st .groupIs)) ∙ group-length log (walk .stage .start) (walk .stage .count)
 
   test-is : (kind : Kind) (ticket : ℕ) → inOrder kind ticket paper ≡ walkFits walk kind ticket
-  test-is kind ticket = order-is kind ticket (walk .count) (walk .ticket) paper (sym group-count) (st .ticketIs)
+  test-is kind ticket = order-is kind ticket (walk .stage .count) (walk .stage .ticket) paper (sym group-count) (st .ticketIs)
 
 refused-at : (walk : Walk) (r : Walk) (refusal place : ℕ) → r ≡ refusedAt walk refusal place → Refused r refusal place
-refused-at walk r refusal place e = record { refusalIs = ap (λ (w : Walk). w .refusal) e; placeIs = ap (λ (w : Walk). w .place) e }
+refused-at walk r refusal place e = record { refusalIs = ap (λ (w : Walk). w .stage .refusal) e; placeIs = ap (λ (w : Walk). w .stage .place) e }
 
-not-zero : {X : Type 0} (walk r : Walk) (refusal place : ℕ) → 0 < refusal → r ≡ refusedAt walk refusal place → r .refusal ≡ 0 → X
-not-zero walk r refusal place h e f = absurd (omega (arith, ap (λ (w : Walk). w .refusal) e, f))
+not-zero : {X : Type 0} (walk r : Walk) (refusal place : ℕ) → 0 < refusal → r ≡ refusedAt walk refusal place → r .stage .refusal ≡ 0 → X
+not-zero walk r refusal place h e f = absurd (omega (arith, ap (λ (w : Walk). w .stage .refusal) e, f))
 
 -- nothing happens once refused
-pub turns-not : (log home : List ℕ) (s : ℕ) (kind : Kind) (ticket : ℕ) (walk : Walk) (frames : List ℕ) → (walk .refusal ≡ 0 → ⊥)
+pub turns-not : (log home : List ℕ) (s : ℕ) (kind : Kind) (ticket : ℕ) (walk : Walk) (frames : List ℕ) → (walk .stage .refusal ≡ 0 → ⊥)
     → Turns log home s kind ticket walk frames walk frames
 turns-not log home s kind ticket walk frames n = record {
   countIs = refl;
@@ -109,7 +109,7 @@ pub turns-as : (log home : List ℕ) (s : ℕ) (kind kind′ : Kind) (ticket tic
 turns-as log home s kind kind′ ticket ticket′ walk frames r frames′ e f x =
     subst (λ (k : Kind). Turns log home s k ticket′ walk frames r frames′) e (subst (λ (t : ℕ). Turns log home s kind t walk frames r frames′) f x)
 
-module _ (log home : List ℕ) (s : ℕ) (walk : Walk) (frames : List ℕ) (v : Legal log home s) (z : walk .refusal ≡ 0) (y : Ready log home s walk) where
+module _ (log home : List ℕ) (s : ℕ) (walk : Walk) (frames : List ℕ) (v : Legal log home s) (z : walk .stage .refusal ≡ 0) (y : Ready log home s walk) where
   -- ---- an update
 
   module _ (index page offset count : ℕ) (k : headerOf log s .kind ≡ format.the-variants.Update index page offset count) (r : Walk)
@@ -139,33 +139,33 @@ module _ (log home : List ℕ) (s : ℕ) (walk : Walk) (frames : List ℕ) (v : 
         at-zero : (i : ℕ) → i < 1 → s ≡ s + i
         at-zero i h = omega arith
 
-    next-index : walkFits walk (update index noUpdate) ticket ≡ true → eqb index 1 ≡ false → (0 < walk .count) × (index ≡ walk .count + 1)
-    next-index f g = next-told ticket (walk .count) (walk .ticket) index noUpdate f (eqb-false _ _ g)
+    next-index : walkFits walk (update index noUpdate) ticket ≡ true → eqb index 1 ≡ false → (0 < walk .stage .count) × (index ≡ walk .stage .count + 1)
+    next-index f g = next-told ticket (walk .stage .count) (walk .stage .ticket) index noUpdate f (eqb-false _ _ g)
 
-    ready-next : walkFits walk (update index noUpdate) ticket ≡ true → eqb index 1 ≡ false → Ready log home (suc s) (halfAt walk (walk .start) index)
+    ready-next : walkFits walk (update index noUpdate) ticket ≡ true → eqb index 1 ≡ false → Ready log home (suc s) (halfAt walk (walk .stage .start) index)
     ready-next f g =
         let n = next-index f g in
-        let end : walk .start + walk .count ≡ s = y .half (n .0) in
+        let end : walk .stage .start + walk .stage .count ≡ s = y .half (n .0) in
         record {
           half = λ h. omega (arith, n .1);
           begins = λ h. y .begins (n .0);
           few = omega (arith, n .1, y .few);
           ticketBelow = omega (arith, y .ticketBelow);
           placed = λ i h.
-              elim (native.Mathlib.Decide.ℕ-discrete i (walk .count)) [
+              elim (native.Mathlib.Decide.ℕ-discrete i (walk .stage .count)) [
                 | yes q ↦ subst (λ (j : ℕ). Placed (pagesIn (length home)) (headerOf log j .kind)) (last i q end) here
                 | no q ↦ y .placed i (omega (arith, n .1))
               ];
         }
       where
-        last : (i : ℕ) → i ≡ walk .count → walk .start + walk .count ≡ s → s ≡ walk .start + i
+        last : (i : ℕ) → i ≡ walk .stage .count → walk .stage .start + walk .stage .count ≡ s → s ≡ walk .stage .start + i
         last i q w = omega arith
 
     -- by the two tests
     data Turn : Type 0 where
       wrong : walkFits walk (update index noUpdate) ticket ≡ false → r ≡ refusedAt walk 8 s → Turn
       first : walkFits walk (update index noUpdate) ticket ≡ true → eqb index 1 ≡ true → r ≡ halfAt walk s 1 → Turn
-      next : walkFits walk (update index noUpdate) ticket ≡ true → eqb index 1 ≡ false → r ≡ halfAt walk (walk .start) index → Turn
+      next : walkFits walk (update index noUpdate) ticket ≡ true → eqb index 1 ≡ false → r ≡ halfAt walk (walk .stage .start) index → Turn
 
     taken : Turn
     unfolding ticket
@@ -181,7 +181,7 @@ module _ (log home : List ℕ) (s : ℕ) (walk : Walk) (frames : List ℕ) (v : 
     same-count (first f g q) = ap (λ (w : Walk). w .table .count) q
     same-count (next f g q) = ap (λ (w : Walk). w .table .count) q
 
-    ready-then : Turn → r .refusal ≡ 0 → Ready log home (suc s) r
+    ready-then : Turn → r .stage .refusal ≡ 0 → Ready log home (suc s) r
     ready-then (wrong f q) h = not-zero walk r 8 s (omega arith) q h
     ready-then (first f g q) h = subst (Ready log home (suc s)) (sym q) ready-first
     ready-then (next f g q) h = subst (Ready log home (suc s)) (sym q) (ready-next f g)
@@ -189,7 +189,7 @@ module _ (log home : List ℕ) (s : ℕ) (walk : Walk) (frames : List ℕ) (v : 
     in-order : (paper : PaperWalk) → Stands log home s walk frames paper
         → inOrder (update index change) ticket paper ≡ walkFits walk (update index noUpdate) ticket
     in-order paper st =
-        test-is log home s walk frames paper st (update index change) ticket ∙ change-any index ticket (walk .count) (walk .ticket) change noUpdate
+        test-is log home s walk frames paper st (update index change) ticket ∙ change-any index ticket (walk .stage .count) (walk .stage .ticket) change noUpdate
 
     module _ (paper : PaperWalk) (st : Stands log home s walk frames paper) where
       refuses : Turn → inOrder (update index change) ticket paper ≡ false → Refused r 8 s
@@ -220,8 +220,8 @@ module _ (log home : List ℕ) (s : ℕ) (walk : Walk) (frames : List ℕ) (v : 
         notFull = st .notFull;
         ticketIs = st .ticketIs;
         startIs = st .startIs;
-        groupIs = ap (updatesFrom log (walk .start)) (next-index f g .1) ∙ group-more log (walk .start) (walk .count)
-            ∙ ap (λ (us : List Update). us ++ (updateOf log (walk .start + walk .count) ∷ [])) (st .groupIs)
+        groupIs = ap (updatesFrom log (walk .stage .start)) (next-index f g .1) ∙ group-more log (walk .stage .start) (walk .stage .count)
+            ∙ ap (λ (us : List Update). us ++ (updateOf log (walk .stage .start + walk .stage .count) ∷ [])) (st .groupIs)
             ∙ ap (λ (u : Update). paper .group ++ (u ∷ [])) (ap (updateOf log) (y .half (next-index f g .0)) ∙ sym change-is);
         holds = st .holds;
         early = early-later _ s (paper .dirtyPages) (st .early);
@@ -255,7 +255,7 @@ module _ (log home : List ℕ) (s : ℕ) (walk : Walk) (frames : List ℕ) (v : 
     -- by its test
     data Cleaned : Type 0 where
       bad : walkFits walk (clean page) (headerOf log s .ticket) ≡ false → r ≡ refusedAt walk 8 s → Cleaned
-      good : walkFits walk (clean page) (headerOf log s .ticket) ≡ true → (t : Table) → Drops (walk .table) page t → r ≡ closedWith walk (walk .ticket) t → Cleaned
+      good : walkFits walk (clean page) (headerOf log s .ticket) ≡ true → (t : Table) → Drops (walk .table) page t → r ≡ closedWith walk (walk .stage .ticket) t → Cleaned
 
     cleaned : Cleaned
     cleaned =
@@ -267,7 +267,7 @@ module _ (log home : List ℕ) (s : ℕ) (walk : Walk) (frames : List ℕ) (v : 
     count-cleaned (bad f q) = ap (λ (w : Walk). w .table .count) q
     count-cleaned (good f t d q) = ap (λ (w : Walk). w .table .count) q ∙ d .countIs
 
-    ready-cleaned : Cleaned → r .refusal ≡ 0 → Ready log home (suc s) r
+    ready-cleaned : Cleaned → r .stage .refusal ≡ 0 → Ready log home (suc s) r
     ready-cleaned (bad f q) h = not-zero walk r 8 s (omega arith) q h
     ready-cleaned (good f t d q) h = subst (Ready log home (suc s)) (sym q) record {
       half = λ x. absurd (omega arith);
@@ -326,10 +326,10 @@ module _ (log home : List ℕ) (s : ℕ) (walk : Walk) (frames : List ℕ) (v : 
     data Committed : Type 0 where
       bad : walkFits walk (commit updates) (headerOf log s .ticket) ≡ false → r ≡ refusedAt walk 8 s → Committed
       full : walkFits walk (commit updates) (headerOf log s .ticket) ≡ true → (t : Table)
-          → AppliesAll (walk .table) home frames (updatesFrom log (walk .start) (walk .count)) (walk .start) t frames′
+          → AppliesAll (walk .table) home frames (updatesFrom log (walk .stage .start) (walk .stage .count)) (walk .stage .start) t frames′
           → t .full ≡ true → r ≡ refusedAt (closedWith walk (headerOf log s .ticket) t) 9 s → Committed
       good : walkFits walk (commit updates) (headerOf log s .ticket) ≡ true → (t : Table)
-          → AppliesAll (walk .table) home frames (updatesFrom log (walk .start) (walk .count)) (walk .start) t frames′
+          → AppliesAll (walk .table) home frames (updatesFrom log (walk .stage .start) (walk .stage .count)) (walk .stage .start) t frames′
           → t .full ≡ false → r ≡ closedWith walk (headerOf log s .ticket) t → Committed
 
     committed : Committed
@@ -345,7 +345,7 @@ module _ (log home : List ℕ) (s : ℕ) (walk : Walk) (frames : List ℕ) (v : 
     count-committed (full f t a h q) = ap (λ (w : Walk). w .table .count) q ∙ a .countIs
     count-committed (good f t a h q) = ap (λ (w : Walk). w .table .count) q ∙ a .countIs
 
-    ready-committed : Committed → r .refusal ≡ 0 → Ready log home (suc s) r
+    ready-committed : Committed → r .stage .refusal ≡ 0 → Ready log home (suc s) r
     ready-committed (bad f q) h = not-zero walk r 8 s (omega arith) q h
     ready-committed (full f t a g q) h = not-zero (closedWith walk (headerOf log s .ticket) t) r 9 s (omega arith) q h
     ready-committed (good f t a g q) h = subst (Ready log home (suc s)) (sym q) record {
@@ -359,13 +359,13 @@ module _ (log home : List ℕ) (s : ℕ) (walk : Walk) (frames : List ℕ) (v : 
     module _ (paper : PaperWalk) (st : Stands log home s walk frames paper) where
       -- the group, as the paper's walk has it
       after : List DirtyPage
-      after = applyAll (walk .start) (pageAt home) (updatesFrom log (walk .start) (walk .count)) (paper .dirtyPages)
+      after = applyAll (walk .stage .start) (pageAt home) (updatesFrom log (walk .stage .start) (walk .stage .count)) (paper .dirtyPages)
 
       after-is : applyAll (paper .start) (pageAt home) (paper .group) (paper .dirtyPages) ≡ after
       unfolding after
       after-is =
           ap (λ (n : ℕ). applyAll n (pageAt home) (paper .group) (paper .dirtyPages)) (sym (st .startIs))
-          ∙ ap (λ (us : List Update). applyAll (walk .start) (pageAt home) us (paper .dirtyPages)) (sym (st .groupIs))
+          ∙ ap (λ (us : List Update). applyAll (walk .stage .start) (pageAt home) us (paper .dirtyPages)) (sym (st .groupIs))
 
       room : framed (walk .table .count) (pageAt home) (commit updates) paper ≡ leb (length after) (walk .table .count)
       unfolding framed
@@ -397,20 +397,20 @@ module _ (log home : List ℕ) (s : ℕ) (walk : Walk) (frames : List ℕ) (v : 
           (subst (λ (w : Walk). Stands log home (suc s) w frames′ (settled after)) (sym q) record {
             going = st .going;
             notFull = g;
-            ticketIs = commit-told (headerOf log s .ticket) (walk .count) (walk .ticket) updates f .1 ∙ ap (λ (n : ℕ). n + 1) (st .ticketIs);
+            ticketIs = commit-told (headerOf log s .ticket) (walk .stage .count) (walk .stage .ticket) updates f .1 ∙ ap (λ (n : ℕ). n + 1) (st .ticketIs);
             startIs = refl;
             groupIs = refl;
             holds = held .1;
-            early = each-group (Early (pagesIn (length home)) (suc s)) log (pageAt home) (walk .start) (walk .start) (walk .count) (paper .dirtyPages)
-                (λ i x. (page-below i x, y .begins (commit-told (headerOf log s .ticket) (walk .count) (walk .ticket) updates f .0), omega (arith, y .half (commit-told (headerOf log s .ticket) (walk .count) (walk .ticket) updates f .0))))
+            early = each-group (Early (pagesIn (length home)) (suc s)) log (pageAt home) (walk .stage .start) (walk .stage .start) (walk .stage .count) (paper .dirtyPages)
+                (λ i x. (page-below i x, y .begins (commit-told (headerOf log s .ticket) (walk .stage .count) (walk .stage .ticket) updates f .0), omega (arith, y .half (commit-told (headerOf log s .ticket) (walk .stage .count) (walk .stage .ticket) updates f .0))))
                 (early-later _ s (paper .dirtyPages) (st .early));
           })
         where
           settled : List DirtyPage → PaperWalk
           settled es = record { group = []; start = 0; ticket = paper .ticket + 1; dirtyPages = es }
 
-          page-below : (i : ℕ) → i < walk .count → updateOf log (walk .start + i) .page < pagesIn (length home)
-          page-below i x = unfold updateOf in placed-page (pagesIn (length home)) (headerOf log (walk .start + i) .kind) (bytesOf log (walk .start + i)) (y .placed i x)
+          page-below : (i : ℕ) → i < walk .stage .count → updateOf log (walk .stage .start + i) .page < pagesIn (length home)
+          page-below i x = unfold updateOf in placed-page (pagesIn (length home)) (headerOf log (walk .stage .start + i) .kind) (bytesOf log (walk .stage .start + i)) (y .placed i x)
 
     commit-turns : Turns log home s (commit updates) (headerOf log s .ticket) walk frames r frames′
     commit-turns = record {

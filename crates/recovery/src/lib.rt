@@ -234,7 +234,7 @@ fn apply_group(
 }
 
 // The walk refused, at a place.
-fn refused(stage: Stage, refusal: u64, place: u64) -> Stage
+pub fn refused(stage: Stage, refusal: u64, place: u64) -> Stage
     ensures { λ r. ⌜ r ≡ stageRefused stage refusal place ⌝ }
 {
     let mut w = stage;
