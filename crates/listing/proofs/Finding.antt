@@ -17,7 +17,7 @@ use Rattle.promises.specs.Areas.{pageAt, slotsIn, pagesIn}
 use Rattle.promises.specs.Blocks.{Slot, unused, damaged, valid, kindIn, slotAt, slotsOf}
 use Rattle.promises.specs.DirtyPages.{keepFromOf}
 use Rattle.promises.specs.Newest.{sequenceIn, newest, keepIn, keepOf, blocks, allUnused, isDamaged, gathered}
-use Rattle.promises.specs.Walk.{Walk, inOrder, Finding, stops as findingStops, stands as findingStands, walkFrom, finding, startWith}
+use Rattle.promises.specs.Walk.{Walk, Finding, stops as findingStops, stands as findingStands, walkFrom, finding, startWith}
 use Rattle.recovery.specs.Log.{headerOf, blockOf, blocksFrom, Legal}
 use Rattle.opening.proofs.Gathering.{stands-legal, newest-stands, keep-is, finds-fresh, finds-damaged, finds-missing, finds-end, gathers-blocks, finds-blocks}
 use Rattle.outline.specs.Outline.{
@@ -37,6 +37,7 @@ use Rattle.outline.specs.Outline.{
   started,
 }
 use Rattle.outline.specs.Marks.{earliest}
+use Rattle.outline.proofs.Turning.{turned-update}
 use Rattle.outline.proofs.Alike.{formOf, fieldsFrom, walk-alike, home-not-needed}
 use Rattle.listing.specs.Listing.{headersFrom}
 
@@ -44,8 +45,7 @@ use Rattle.listing.specs.Listing.{headersFrom}
 
 turned-form : (frames : ℕ) (kind : format.Kind) (bytes : List ℕ) (ticket sequence : ℕ) (outline : Outline)
     → turned frames kind ticket sequence outline ≡ turned frames (formOf (kindIn kind bytes)) ticket sequence outline
-unfolding turned inOrder seated after
-turned-form frames (Update index page offset size) bytes ticket sequence outline = refl
+turned-form frames (Update index page offset size) bytes ticket sequence outline = sym (turned-update frames index page offset size ticket sequence outline)
 turned-form frames (Commit updates) bytes ticket sequence outline = refl
 turned-form frames (Clean page) bytes ticket sequence outline = refl
 

@@ -9,17 +9,19 @@ use native.Mathlib.Omega.{arith}
 use lib.ListN.{length}
 use borrow.Author.Tests.{eq-eqb, ne-eqb, lt-leb, le-leb}
 use Rattle.block.specs.Sizes.{sequenceEnd, groupMost}
+use Rattle.block.specs.Slot.{newBytesAt}
 use Rattle.block.specs.declared.Block.{Block}
 use Rattle.block.specs.declared.Kind.{Kind}
 use Rattle.block.specs.declared.Kind.the-variants.{Update, Commit, Clean}
 use Rattle.promises.specs.Walk.{Walk}
 use Rattle.recovery.specs.Order.{counted}
-use Rattle.recovery.proofs.Ordering.{count-is, next-told}
+use Rattle.recovery.proofs.Ordering.{count-is, change-any, next-told}
 use Rattle.outline.specs.declared.Marks.{Marks}
 use Rattle.outline.specs.declared.Group.{Group}
 use Rattle.outline.specs.declared.Course.{Course}
 use Rattle.outline.specs.Marks.{marksIn, pagesIn, unmarked, earliest}
 use Rattle.outline.specs.Outline.{
+  Outline,
   stops,
   stands,
   outlineFits,
@@ -104,6 +106,13 @@ module _ (course : Course) (size : length (pagesIn (course .group)) ≡ course .
   next-index index page ticket e n = next-told ticket (length (pagesIn (course .group))) (course .ticket) index _ e n .1 ∙ ap (λ (n : ℕ). n + 1) size
 
 -- ---- a block, as the walk meets it
+
+-- an update's offset and length play no part
+pub turned-update : (frames index page offset size ticket sequence : ℕ) (outline : Outline)
+    → turned frames (Update index page 0 0) ticket sequence outline ≡ turned frames (Update index page offset size) ticket sequence outline
+unfolding turned seated after
+turned-update frames index page offset size ticket sequence outline =
+    rw (change-any index ticket (length (outline .group)) (outline .ticket) (record { page = page; offset = 0; bytes = newBytesAt [] 0 }) (record { page = page; offset = offset; bytes = newBytesAt [] size }))
 
 pub step-stops : (block : Block) (course : Course) → (course .refusal ≡ 0 → ⊥) → sketchIn course ≡ step 32 block (sketchIn course)
 step-stops block course e = rw (sketch-refused course e)

@@ -13,9 +13,11 @@ use Rattle.promises.specs.LogStep.{noUpdate}
 use Rattle.promises.specs.Walk.{Walk, inOrder}
 use Rattle.recovery.specs.Order.{counted, inOrderAfter}
 
+-- the walk that only counts has so many updates
 pub count-is : (count walked : ℕ) → count ≡ length (counted count walked .group)
 count-is count walked = sym (length-replicate count noUpdate)
 
+-- two walks with the same two numbers have the same blocks in order
 pub order-is : (kind : Kind) (ticket count walked : ℕ) (walk : Walk) → count ≡ length (walk .group) → walked ≡ walk .ticket
     → inOrder kind ticket walk ≡ inOrderAfter kind ticket count walked
 unfolding inOrder
@@ -23,6 +25,7 @@ order-is (update index change) ticket count walked walk size last = rw (length-r
 order-is (commit updates) ticket count walked walk size last = rw (length-replicate count noUpdate, size, last)
 order-is (clean page) ticket count walked walk size last = rw last
 
+-- what an update changes plays no part
 pub change-any : (index ticket count walked : ℕ) (change change′ : Update)
     → inOrderAfter (update index change) ticket count walked ≡ inOrderAfter (update index change′) ticket count walked
 unfolding inOrder

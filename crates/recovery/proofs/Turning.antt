@@ -8,17 +8,17 @@ use native.Mathlib.Omega.{arith}
 use lib.Dec.{eqb, leb}
 use lib.ListN.{length}
 use borrow.Author.Tests.{eqb-false, leb-true, leb-false}
-use Rattle.block.specs.Legal.{legal, legalKind, legalNumbers}
+use Rattle.block.specs.Kind.{updateBlock}
+use Rattle.block.specs.Legal.{legal}
 use Rattle.block.specs.declared.Kind as format
-use Rattle.block.proofs.Tests.{by-cases, tests, never-both}
-use Rattle.block.proofs.Facts.{facts, Facts}
+use Rattle.block.proofs.Tests.{by-cases, never-both}
+use Rattle.block.proofs.Facts.{facts, Facts, UpdateFacts, update-facts}
 use Rattle.promises.specs.Areas.{pageAt, slotsIn, pagesIn}
 use Rattle.promises.specs.Updates.{Update}
 use Rattle.promises.specs.Blocks.{Kind, update, commit, clean, kindIn}
 use Rattle.promises.specs.DirtyPages.{DirtyPage, apply, applyAll, without}
 use Rattle.promises.specs.LogStep.{noUpdate}
 use Rattle.promises.specs.Walk.{Walk as PaperWalk, walkBlock, inOrder, framed}
-use Rattle.promises.proofs.Soundness.{and-both}
 use Rattle.table.specs.declared.Table.{Table}
 use Rattle.table.specs.Table.{Each, AppliesAll, Drops}
 use Rattle.table.proofs.Holding.{each-apply, each-without}
@@ -39,16 +39,14 @@ legal-numbers log home s v =
 pub legal-placed : (log home : List ℕ) (s index page offset count : ℕ) → Legal log home s
     → headerOf log s .kind ≡ format.the-variants.Update index page offset count
     → Placed (pagesIn (length home)) (headerOf log s .kind)
-unfolding legal
 legal-placed log home s index page offset count v e =
+    let slots = slotsIn (length log) in
+    let pages = pagesIn (length home) in
     let b = headerOf log s in
-    let k : legalKind (pagesIn (length home)) (b .ticket) (b .kind) ≡ true =
-    and-both (legalNumbers (slotsIn (length log)) (b .sequence) (b .«keep_from») (b .ticket)) (legalKind (pagesIn (length home)) (b .ticket) (b .kind)) (v .rules) .1 in
-    subst (Placed (pagesIn (length home))) (sym e) (placed (subst (λ (x : format.Kind). legalKind (pagesIn (length home)) (b .ticket) x ≡ true) e k))
-  where
-    placed : legalKind (pagesIn (length home)) (headerOf log s .ticket) (format.the-variants.Update index page offset count) ≡ true
-        → Placed (pagesIn (length home)) (format.the-variants.Update index page offset count)
-    placed h = let g = simp tests at h in omega arith
+    let rules : legal slots pages (updateBlock (b .sequence) (b .«keep_from») index page offset count (b .ticket)) ≡ true =
+    subst (λ (k : format.Kind). legal slots pages (record { sequence = b .sequence; «keep_from» = b .«keep_from»; kind = k; ticket = b .ticket }) ≡ true) e (v .rules) in
+    let f : UpdateFacts pages index page offset count = update-facts slots pages (b .sequence) (b .«keep_from») index page offset count (b .ticket) rules .1 in
+    subst (Placed pages) (sym e) (f .page-below, f .length-most, f .end)
 
 placed-page : (pages : ℕ) (kind : format.Kind) (bytes : List ℕ) → Placed pages kind → changeIn kind bytes .page < pages
 placed-page pages (format.the-variants.Update index page offset count) bytes p = p .0

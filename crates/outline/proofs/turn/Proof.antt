@@ -1,13 +1,12 @@
 -- `outline::turn` meets its contract, kind by kind; a walk that is refused stays.
 -- Assumes nothing.
-use mathlib.Core.Path.{sym, ap, subst}
+use mathlib.Core.Path.{sym, ap, _∙_, subst}
 use native.Mathlib.Omega.{arith}
 use borrow.Author.Needs.{needs}
 use Rattle.block.specs.declared.Kind.the-variants.{Update, Commit, Clean}
 use Rattle.block.specs.declared.Kind.{Kind}
-use Rattle.promises.specs.Walk.{inOrder}
-use Rattle.outline.specs.Outline.{Indexed, seated, after, turned, outlineIn}
-use Rattle.outline.proofs.Turning.{step-stops, step-turns}
+use Rattle.outline.specs.Outline.{Indexed, turned, outlineIn}
+use Rattle.outline.proofs.Turning.{step-stops, step-turns, turned-update}
 use Rattle.outline.proofs.turn.Statement.{statement}
 use Rattle.outline.proofs.turn.Tie as tie
 
@@ -41,15 +40,15 @@ walk-clean-requires : tie.Need-walk-clean-requires
 walk-clean-requires c κs = search needs
 
 returns-2 : tie.Need-returns-2
-unfolding turned inOrder seated after
 returns-2 c =
     let a = (c .before .before .before .before .before .before) .args in
-    step-turns (a .block) (Update ((c .before .before) .kind .given .0 .0) ((c .before .before) .kind .given .0 .1 .0) 0 0) (a .course) _ ((c .before .before .before .before) .if1 .left)
-    (ap (λ (k : Kind). turned 32 k (a .block .ticket) (a .course .place) (outlineIn (a .course))) (sym ((c .before .before) .kind .given .1)))
+    let g = (c .before .before) .kind .given .0 in
+    step-turns (a .block) (Update (g .0) (g .1 .0) 0 0) (a .course) _ ((c .before .before .before .before) .if1 .left)
+    (turned-update 32 (g .0) (g .1 .0) (g .1 .1 .0) (g .1 .1 .1 .0) (a .block .ticket) (a .course .place) (outlineIn (a .course))
+    ∙ ap (λ (k : Kind). turned 32 k (a .block .ticket) (a .course .place) (outlineIn (a .course))) (sym ((c .before .before) .kind .given .1)))
     (c .walk-update .ensures)
 
 returns-3 : tie.Need-returns-3
-unfolding turned inOrder seated after
 returns-3 c =
     let a = (c .before .before .before .before .before .before) .args in
     step-turns (a .block) (Commit ((c .before .before) .kind2 .given .0 .0)) (a .course) _ ((c .before .before .before .before) .if1 .left)
@@ -57,7 +56,6 @@ returns-3 c =
     (c .walk-commit .ensures)
 
 returns-4 : tie.Need-returns-4
-unfolding turned inOrder seated after
 returns-4 c =
     let a = (c .before .before .before .before .before .before) .args in
     step-turns (a .block) (Clean ((c .before .before) .kind3 .given .0 .0)) (a .course) _ ((c .before .before .before .before) .if1 .left)
