@@ -1,6 +1,6 @@
 -- An examination of a log, from the scan of its slots, the search for a missing block and the walk without bytes.
 -- Assumes nothing.
-use mathlib.Core.Path.{_≡_, sym, ap, _∙_, subst}
+use mathlib.Core.Path.{_≡_, refl, sym, ap, _∙_, subst}
 use mathlib.Core.Bool.{Bool, true, false, cond}
 use mathlib.Core.List.{List, []}
 use Prim.Native.Nat.{ℕ, _+_, _-_, _*_, _/_, _^_, _≤_, _<_}
@@ -28,7 +28,7 @@ use Rattle.outline.specs.Outline as outline
 use Rattle.outline.specs.Outline.{Outline, sketchOf, outlineIn, sketchIn, steps, ended, started, Indexed, Ordinary}
 use Rattle.outline.proofs.Turning.{sketch-going, sketch-refused}
 use Rattle.listing.specs.declared.Examined.{Examined}
-use Rattle.listing.specs.Listing.{found, shownLength, headersFrom, blocksShown, Examines}
+use Rattle.listing.specs.Listing.{found, shownLength, headersFrom, blocksShown, refusedWith, Examines}
 use Rattle.listing.proofs.Finding.{
   from-stops,
   from-stands,
@@ -60,12 +60,18 @@ ordinary slots pages block h =
 
 -- ---- a log that is refused
 
-pub refused-length : (log : List ℕ) (examined : Examined) → shownLength (length log) ≡ false → examined .refusal ≡ 1 → examined .place ≡ 0 → Examines log examined
+-- an examination that tells the refusal that is found
+told : (log : List ℕ) (examined : Examined) (refusal place : ℕ) → (refusal ≡ 0 → ⊥) → examined ≡ refusedWith refusal place → found log ≡ stops refusal place
+    → Examines log examined
+told log examined refusal place n r e = subst (λ (x : Examined). Examines log x) (sym r) (record {
+  refused = λ z. record { foundIs = e; newestIs = refl; keepIs = refl; ticketIs = refl };
+  accepted = λ z. absurd (n z);
+})
+
+pub refused-length : (log : List ℕ) (examined : Examined) → shownLength (length log) ≡ false → examined ≡ refusedWith 1 0 → Examines log examined
 unfolding found
-refused-length log examined h r p = record {
-  refused = λ n. ap (λ (t : Bool). cond t (finding (slotsIn (length log)) 4096 32 log []) (stops 1 0)) h ∙ cc;
-  accepted = λ z. absurd (omega arith);
-}
+refused-length log examined h r =
+    told log examined 1 0 (λ z. omega arith) r (ap (λ (t : Bool). cond t (finding (slotsIn (length log)) 4096 32 log []) (stops 1 0)) h)
 
 -- ---- a log of so many slots, scanned
 
@@ -83,12 +89,9 @@ module _ (log : List ℕ) (n : ℕ) (long : length log ≡ n * 512) (least : 8 �
   unfolding found
   found-is = ap (λ (t : Bool). cond t (finding (slotsIn (length log)) 4096 32 log []) (stops 1 0)) fits
 
-  refuses : (examined : Examined) (refusal place : ℕ) → (refusal ≡ 0 → ⊥) → examined .refusal ≡ refusal → examined .place ≡ place
+  refuses : (examined : Examined) (refusal place : ℕ) → (refusal ≡ 0 → ⊥) → examined ≡ refusedWith refusal place
       → sketchOf (finding (slotsIn (length log)) 4096 32 log []) ≡ outline.stops refusal place → Examines log examined
-  refuses examined refusal place n r p e = record {
-    refused = λ z. found-is ∙ from-stops _ refusal place e ∙ cc;
-    accepted = λ z. absurd (n (sym r ∙ z));
-  }
+  refuses examined refusal place n r e = told log examined refusal place n r (found-is ∙ from-stops _ refusal place e)
 
   module _ (scan : Scan) (sequences : List ℕ) (wide : length sequences ≡ n) (scanned : Scanned n 4096 log scan sequences) where
     scan-is : Scanned (slotsIn (length log)) 4096 log scan sequences
@@ -100,35 +103,35 @@ module _ (log : List ℕ) (n : ℕ) (long : length log ≡ n * 512) (least : 8 �
         ∙ scan-is .sequencesAre (slotOf (slotsIn (length log)) s) (mod-lt s (omega arith))
 
     -- no block
-    pub examines-fresh : (examined : Examined) → scan .unused ≡ true → examined .refusal ≡ 0 → examined .newest ≡ 0 → examined .keep ≡ 0 → examined .ticket ≡ 0
-        → Examines log examined
+    pub examines-fresh : (examined : Examined) → scan .unused ≡ true → examined ≡ refusedWith 0 0 → Examines log examined
     unfolding blocksFrom
-    examines-fresh examined e r m k t =
+    examines-fresh examined e r =
         let unused : allUnused (slotsOf (slotsIn (length log)) 4096 log) ≡ true = sym (scan-is .unusedIs) ∙ e in
         let w = from-stands (finding (slotsIn (length log)) 4096 32 log []) 1 _ (found-fresh log big unused) in
-        let none : blocksShown examined ≡ 0 = ap (λ (b : Bool). cond b 0 (examined .newest + 1 - examined .keep)) (eq-eqb _ _ m) in
-        record {
-          refused = λ n. absurd (n r);
+        subst (λ (x : Examined). Examines log x) (sym r)
+        (record {
+          refused = λ n. absurd (n refl);
           accepted = λ z. (
             fits,
             record {
               walk = w .0;
-              foundIs = found-is ∙ w .1 ∙ ap (λ (x : ℕ). stands x (w .0)) (omega arith);
-              keepIs = k ∙ sym (keep-fresh log big unused);
-              ticketIs = t ∙ sym (ap (λ (o : Outline). o .ticket) (w .2));
-              blocksAre = gathered-fresh _ _ unused ∙ sym (ap (λ (x : ℕ). blocks (blocksFrom log (examined .keep) x)) none);
+              foundIs = found-is ∙ w .1;
+              placeIs = refl;
+              keepIs = sym (keep-fresh log big unused);
+              ticketIs = sym (ap (λ (o : Outline). o .ticket) (w .2));
+              blocksAre = gathered-fresh _ _ unused;
               keepMost = omega arith;
               newestBelow = omega arith;
-              blocksFew = omega (arith, none);
-              legalAre = λ i h. absurd (omega (arith, none));
+              blocksFew = omega arith;
+              legalAre = λ i h. absurd (omega arith);
             },
           );
-        }
+        })
 
     -- no valid slot but a damaged one
-    pub examines-damaged : (examined : Examined) → scan .newest ≡ 0 → scan .unused ≡ false → examined .refusal ≡ 7 → examined .place ≡ 0 → Examines log examined
-    examines-damaged examined z e r p =
-        refuses examined 7 0 (λ q. omega arith) r p (found-damaged log big (sym (scan-is .unusedIs) ∙ e) (sym (scan-is .newestIs) ∙ z))
+    pub examines-damaged : (examined : Examined) → scan .newest ≡ 0 → scan .unused ≡ false → examined ≡ refusedWith 7 0 → Examines log examined
+    examines-damaged examined z e r =
+        refuses examined 7 0 (λ q. omega arith) r (found-damaged log big (sym (scan-is .unusedIs) ∙ e) (sym (scan-is .newestIs) ∙ z))
 
     module _ (some : scan .newest ≡ 0 → ⊥) (keep : ℕ) (keep-is : keep ≡ headerOf log (scan .newest) .«keep_from») where
       newest-facts : Facts (slotsIn (length log)) 4096 (headerOf log (scan .newest)) × (headerOf log (scan .newest) .sequence ≡ scan .newest)
@@ -150,9 +153,9 @@ module _ (log : List ℕ) (n : ℕ) (long : length log ≡ n * 512) (least : 8 �
 
       module _ (lost : ℕ) (lowest : Lowest sequences keep (scan .newest) lost) where
         -- a block is missing
-        pub examines-lost : (examined : Examined) → lost ≤ scan .newest → examined .refusal ≡ 7 → examined .place ≡ lost → Examines log examined
-        examines-lost examined h r p =
-            refuses examined 7 lost (λ q. omega arith) r p
+        pub examines-lost : (examined : Examined) → lost ≤ scan .newest → examined ≡ refusedWith 7 lost → Examines log examined
+        examines-lost examined h r =
+            refuses examined 7 lost (λ q. omega arith) r
             (found-missing log big (scan .newest) keep (scan-is .newestIs) keep-is some lost (keep-range .0) (keep-range .1) (lowest .least) h
             (λ s x y. sym (stands-there s) ∙ lowest .stand s x y) (λ e. lowest .lacks h (stands-there lost ∙ e)))
 
@@ -168,9 +171,9 @@ module _ (log : List ℕ) (n : ℕ) (long : length log ≡ n * 512) (least : 8 �
 
           -- the slot after the newest is damaged
           pub examines-end : (examined : Examined) (end : Bool) → end ≡ isDamaged (slotAt (slotsIn (length log)) 4096 log (slotOf (slotsIn (length log)) (scan .newest + 1))) → end ≡ true
-              → examined .refusal ≡ 7 → examined .place ≡ scan .newest + 1 → Examines log examined
-          examines-end examined end e d r p =
-              refuses examined 7 (scan .newest + 1) (λ q. omega arith) r p
+              → examined ≡ refusedWith 7 (scan .newest + 1) → Examines log examined
+          examines-end examined end e d r =
+              refuses examined 7 (scan .newest + 1) (λ q. omega arith) r
               (found-end log big (scan .newest) keep (scan-is .newestIs) keep-is some (keep-range .0) (keep-range .1) all-stand (sym e ∙ d))
 
           module _ (end : Bool) (is-end : end ≡ isDamaged (slotAt (slotsIn (length log)) 4096 log (slotOf (slotsIn (length log)) (scan .newest + 1)))) (whole : end ≡ false) (course : Course)
@@ -182,14 +185,14 @@ module _ (log : List ℕ) (n : ℕ) (long : length log ≡ n * 512) (least : 8 �
                 ∙ sym walked
 
             -- the walk is refused
-            pub examines-refused : (examined : Examined) → (course .refusal ≡ 0 → ⊥) → examined .refusal ≡ course .refusal → examined .place ≡ course .place
+            pub examines-refused : (examined : Examined) → (course .refusal ≡ 0 → ⊥) → examined ≡ refusedWith (course .refusal) (course .place)
                 → Examines log examined
-            examines-refused examined h r p = refuses examined (course .refusal) (course .place) h r p (found-course ∙ sketch-refused course h)
+            examines-refused examined h r = refuses examined (course .refusal) (course .place) h r (found-course ∙ sketch-refused course h)
 
             -- the walk stands
-            pub examines-accepted : (examined : Examined) → course .refusal ≡ 0 → examined .refusal ≡ 0 → examined .newest ≡ scan .newest → examined .keep ≡ keep
-                → examined .ticket ≡ course .ticket → Examines log examined
-            examines-accepted examined h r m k t =
+            pub examines-accepted : (examined : Examined) → course .refusal ≡ 0 → examined .refusal ≡ 0 → examined .place ≡ 0 → examined .newest ≡ scan .newest
+                → examined .keep ≡ keep → examined .ticket ≡ course .ticket → Examines log examined
+            examines-accepted examined h r p m k t =
                 let stood = sketch-going course h in
                 let w = from-stands (finding (slotsIn (length log)) 4096 32 log []) (course .place) (outlineIn course) (found-course ∙ stood) in
                 let place : course .place ≡ scan .newest + 1 = ended-place n log keep (scan .newest) (headerOf log keep .ticket) (course .place) (outlineIn course) (keep-range .1) (sym walked ∙ stood) in
@@ -202,6 +205,7 @@ module _ (log : List ℕ) (n : ℕ) (long : length log ≡ n * 512) (least : 8 �
                     record {
                       walk = w .0;
                       foundIs = found-is ∙ w .1 ∙ ap (λ (x : ℕ). stands x (w .0)) (omega arith);
+                      placeIs = p;
                       keepIs = k ∙ sym (keep-shown log big (scan .newest) keep (scan-is .newestIs) keep-is some);
                       ticketIs = t ∙ sym (ap (λ (o : Outline). o .ticket) (w .2));
                       blocksAre =

@@ -72,10 +72,22 @@ headersFrom log sequence (suc more) = headerOf log sequence ∷ headersFrom log 
 abbrev pub blocksShown : Examined → ℕ
 blocksShown examined = cond (eqb (examined .newest) 0) 0 (examined .newest + 1 - examined .keep)
 
--- an accepted log: next - 1, k and the last committed ticket, and the blocks k to M, each legal in its slot
+-- an examination that tells a refusal and its place, and nothing else; with 0 and 0, of a log without a block
+abbrev pub refusedWith : ℕ → ℕ → Examined
+refusedWith refusal place = record { refusal = refusal; place = place; newest = 0; keep = 0; ticket = 0 }
+
+-- a refused log: the refusal and its place; newest, keep and ticket are 0
+pub record Refuses (log : List ℕ) (examined : Examined) : Type 0 where
+  pub foundIs : found log ≡ stops (examined .refusal) (examined .place)
+  pub newestIs : examined .newest ≡ 0
+  pub keepIs : examined .keep ≡ 0
+  pub ticketIs : examined .ticket ≡ 0
+
+-- an accepted log: next - 1, k and the last committed ticket, and the blocks k to M, each legal in its slot; the place is 0
 pub record Accepts (log : List ℕ) (examined : Examined) : Type 0 where
   pub walk : Walk
   pub foundIs : found log ≡ stands (examined .newest + 1) walk
+  pub placeIs : examined .place ≡ 0
   pub keepIs : examined .keep ≡ keepShown log
   pub ticketIs : examined .ticket ≡ walk .ticket
   pub blocksAre : gatheredIn log ≡ blocks (blocksFrom log (examined .keep) (blocksShown examined))
@@ -85,7 +97,7 @@ pub record Accepts (log : List ℕ) (examined : Examined) : Type 0 where
   pub legalAre : (i : ℕ) → i < blocksShown examined
       → (legal (slotsIn (length log)) pagesShown (headerOf log (examined .keep + i)) ≡ true) × (headerOf log (examined .keep + i) .sequence ≡ examined .keep + i)
 
--- a refused log: the refusal and its place
+-- an examined log is refused, or accepted with refusal 0
 pub record Examines (log : List ℕ) (examined : Examined) : Type 0 where
-  pub refused : (examined .refusal ≡ 0 → ⊥) → found log ≡ stops (examined .refusal) (examined .place)
+  pub refused : (examined .refusal ≡ 0 → ⊥) → Refuses log examined
   pub accepted : examined .refusal ≡ 0 → (shownLength (length log) ≡ true) × Accepts log examined

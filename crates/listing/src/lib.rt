@@ -11,7 +11,7 @@ ghost use Rattle.block.specs.Sizes.{blockSize, sequenceEnd};
 ghost use Rattle.recovery.specs.Log.{headerOf};
 ghost use Rattle.lines.specs.Text.{Shows};
 ghost use Rattle.outline.specs.Outline.{steps, started, sketchIn, Bounded, Ordinary};
-ghost use Rattle.listing.specs.Listing.{shownLength, linesOf, headersFrom, Examines};
+ghost use Rattle.listing.specs.Listing.{shownLength, linesOf, headersFrom, refusedWith, Examines};
 
 // The pages of the store as which the log is examined.
 const PAGES: usize = 4096;
@@ -37,22 +37,9 @@ fn length_fits(log: usize) -> bool
     (slots * Block::SIZE == log) & ((8 <= slots) & (slots <= SLOTS))
 }
 
-// A log without a block.
-fn fresh() -> Examined
-    ensures { λ r. ⌜ (r .refusal ≡ 0) × (r .newest ≡ 0) × (r .keep ≡ 0) × (r .ticket ≡ 0) ⌝ }
-{
-    Examined {
-        refusal: 0,
-        place: 0,
-        newest: 0,
-        keep: 0,
-        ticket: 0,
-    }
-}
-
-// A refusal and its place.
+// A refusal and its place, and nothing else.
 fn refused(refusal: u64, place: u64) -> Examined
-    ensures { λ r. ⌜ (r .refusal ≡ refusal) × (r .place ≡ place) ⌝ }
+    ensures { λ r. ⌜ r ≡ refusedWith refusal place ⌝ }
 {
     Examined {
         refusal,
@@ -61,6 +48,13 @@ fn refused(refusal: u64, place: u64) -> Examined
         keep: 0,
         ticket: 0,
     }
+}
+
+// A log without a block: no refusal, and nothing else.
+fn fresh() -> Examined
+    ensures { λ r. ⌜ r ≡ refusedWith 0 0 ⌝ }
+{
+    refused(0, 0)
 }
 
 // The walk over the blocks from first to last.

@@ -19,8 +19,7 @@ refused-requires c κs = search needs
 
 returns : tie.Need-returns
 returns c =
-    let r = c .refused .ensures in
-    refused-length ((c .before .before .before .before) .args .log .now) _ (sym ((c .before .before) .length-fits .ensures) ∙ not-true _ ((c .before) .if1 .taken)) (r .0) (r .1)
+    refused-length ((c .before .before .before .before) .args .log .now) _ (sym ((c .before .before) .length-fits .ensures) ∙ not-true _ ((c .before) .if1 .taken)) (c .refused .ensures)
 
 array-borrow-prefix-sequences : tie.Need-array-borrow-prefix-sequences
 array-borrow-prefix-sequences c = (shown-range (length ((c .before .before .before) .args .log .now)) (sym ((c .before) .length-fits .ensures) ∙ not-false _ (c .if1 .left))) .2

@@ -28,8 +28,7 @@ returns c =
     let p = (c .before .before .before .before .before .before .before .before .before) .pre in
     let j = (c .before .before .before .before .before) .judge-all in
     let size = j .kept .1 .1 .0 in
-    let f = c .fresh .ensures in
-    examines-fresh (a .log .now) (length (a .sequences .now)) (p .0) (p .1) (p .2) (j .result) (j .last .1 .1 .0) size (j .ensures) _ ((c .before) .if2 .taken) (f .0) (f .1) (f .2) (f .3)
+    examines-fresh (a .log .now) (length (a .sequences .now)) (p .0) (p .1) (p .2) (j .result) (j .last .1 .1 .0) size (j .ensures) _ ((c .before) .if2 .taken) (c .fresh .ensures)
 
 refused-requires : tie.Need-refused-requires
 refused-requires c κs = search needs
@@ -44,7 +43,7 @@ returns-2 c =
     let j = (c .before .before .before .before .before) .judge-all in
     let size = j .kept .1 .1 .0 in
     let r = c .refused .ensures in
-    examines-damaged (a .log .now) (length (a .sequences .now)) (p .0) (p .1) (p .2) (j .result) (j .last .1 .1 .0) size (j .ensures) _ ((c .before .before) .if1 .taken) ((c .before) .if2 .left) (r .0) (r .1)
+    examines-damaged (a .log .now) (length (a .sequences .now)) (p .0) (p .1) (p .2) (j .result) (j .last .1 .1 .0) size (j .ensures) _ ((c .before .before) .if1 .taken) ((c .before) .if2 .left) r
 
 header-requires : tie.Need-header-requires
 header-requires c κs = search needs
@@ -95,7 +94,7 @@ returns-3 c =
     let keep = h .result .«keep_from» in
     let keep-is = ap (λ (b : Block). b .«keep_from») (h .ensures) in
     let r = c .refused2 .ensures in
-    examines-lost (a .log .now) (length (a .sequences .now)) (p .0) (p .1) (p .2) (j .result) (j .last .1 .1 .0) size (j .ensures) some keep keep-is _ ((c .before .before .before) .missing .ensures) _ ((c .before) .if3 .taken) (r .0) (r .1)
+    examines-lost (a .log .now) (length (a .sequences .now)) (p .0) (p .1) (p .2) (j .result) (j .last .1 .1 .0) size (j .ensures) some keep keep-is _ ((c .before .before .before) .missing .ensures) _ ((c .before) .if3 .taken) r
 
 add-refused : tie.Need-add-refused
 add-refused c =
@@ -127,7 +126,7 @@ returns-4 c =
     let keep = h .result .«keep_from» in
     let keep-is = ap (λ (b : Block). b .«keep_from») (h .ensures) in
     let r = c .refused3 .ensures in
-    examines-end (a .log .now) (length (a .sequences .now)) (p .0) (p .1) (p .2) (j .result) (j .last .1 .1 .0) size (j .ensures) some keep keep-is _ ((c .before .before .before .before) .missing .ensures) ((c .before .before) .if3 .left) _ _ ((c .before .before .before) .damaged-at .ensures) ((c .before) .if4 .taken) (r .0) (r .1)
+    examines-end (a .log .now) (length (a .sequences .now)) (p .0) (p .1) (p .2) (j .result) (j .last .1 .1 .0) size (j .ensures) some keep keep-is _ ((c .before .before .before .before) .missing .ensures) ((c .before .before) .if3 .left) _ _ ((c .before .before .before) .damaged-at .ensures) ((c .before) .if4 .taken) r
 
 header-requires-2 : tie.Need-header-requires-2
 header-requires-2 c κs = search needs
@@ -187,7 +186,7 @@ returns-5 c =
     let t = (c .before .before .before) .last-test in
     let walked = t .ensures ∙ ap (ended (length (a .sequences .now))) (w .ensures .0 ∙ ap (λ (b : Block). steps 32 (headersFrom (a .log .now) keep (j .result .newest + 1 - keep)) (started keep (b .ticket))) (g .ensures)) in
     let r = c .refused4 .ensures in
-    examines-refused (a .log .now) (length (a .sequences .now)) (p .0) (p .1) (p .2) (j .result) (j .last .1 .1 .0) size (j .ensures) some keep keep-is _ ((c .before .before .before .before .before .before .before .before .before) .missing .ensures) ((c .before .before .before .before .before .before .before) .if3 .left) _ ((c .before .before .before .before .before .before .before .before) .damaged-at .ensures) ((c .before .before .before .before .before .before) .if4 .left) (t .result) walked _ ((c .before) .if5 .taken) (r .0) (r .1)
+    examines-refused (a .log .now) (length (a .sequences .now)) (p .0) (p .1) (p .2) (j .result) (j .last .1 .1 .0) size (j .ensures) some keep keep-is _ ((c .before .before .before .before .before .before .before .before .before) .missing .ensures) ((c .before .before .before .before .before .before .before) .if3 .left) _ ((c .before .before .before .before .before .before .before .before) .damaged-at .ensures) ((c .before .before .before .before .before .before) .if4 .left) (t .result) walked _ ((c .before) .if5 .taken) r
 
 same-length-6 : tie.Need-same-length-6
 same-length-6 c = (c .before .before .before .before .before .before .before .before .before .before .before .before .before .before) .judge-all .kept .1 .1 .0
@@ -206,7 +205,7 @@ returns-6 c =
     let w = (c .before .before .before) .walk-blocks in
     let t = (c .before .before) .last-test in
     let walked = t .ensures ∙ ap (ended (length (a .sequences .now))) (w .ensures .0 ∙ ap (λ (b : Block). steps 32 (headersFrom (a .log .now) keep (j .result .newest + 1 - keep)) (started keep (b .ticket))) (g .ensures)) in
-    examines-accepted (a .log .now) (length (a .sequences .now)) (p .0) (p .1) (p .2) (j .result) (j .last .1 .1 .0) size (j .ensures) some keep keep-is _ ((c .before .before .before .before .before .before .before .before) .missing .ensures) ((c .before .before .before .before .before .before) .if3 .left) _ ((c .before .before .before .before .before .before .before) .damaged-at .ensures) ((c .before .before .before .before .before) .if4 .left) (t .result) walked _ (c .if5 .left) refl refl refl refl
+    examines-accepted (a .log .now) (length (a .sequences .now)) (p .0) (p .1) (p .2) (j .result) (j .last .1 .1 .0) size (j .ensures) some keep keep-is _ ((c .before .before .before .before .before .before .before .before) .missing .ensures) ((c .before .before .before .before .before .before) .if3 .left) _ ((c .before .before .before .before .before .before .before) .damaged-at .ensures) ((c .before .before .before .before .before) .if4 .left) (t .result) walked _ (c .if5 .left) refl refl refl refl refl
 
 pub examine-slots-spec : {M : Type 1} → statement M
 examine-slots-spec =

@@ -19,7 +19,7 @@ returns : tie.Need-returns
 returns c =
     let a = (c .before .before .before .before .before .before .before .before) .args in
     let p = (c .before .before .before .before .before .before .before .before) .pre in
-    shows-as _ _ _ _ (refused-shown (a .log .now) (a .examined) (p .0 .refused ((c .before .before .before .before) .if1 .taken)) (a .index) (p .1)) ((c .before .before) .refused-line .ensures)
+    shows-as _ _ _ _ (refused-shown (a .log .now) (a .examined) (p .0 .refused ((c .before .before .before .before) .if1 .taken) .foundIs) (a .index) (p .1)) ((c .before .before) .refused-line .ensures)
 
 first-line-requires : tie.Need-first-line-requires
 first-line-requires c κs = search needs

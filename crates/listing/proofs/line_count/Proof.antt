@@ -6,7 +6,7 @@ use Rattle.listing.proofs.line_count.Statement.{statement}
 use Rattle.listing.proofs.line_count.Tie as tie
 
 returns : tie.Need-returns
-returns c = count-refused ((c .before .before) .args .log .now) ((c .before .before) .args .examined) ((c .before .before) .pre .refused (c .if1 .taken))
+returns c = count-refused ((c .before .before) .args .log .now) ((c .before .before) .args .examined) ((c .before .before) .pre .refused (c .if1 .taken) .foundIs)
 
 returns-2 : tie.Need-returns-2
 returns-2 c =
