@@ -1,13 +1,13 @@
 -- Texts added one behind the other, and the line that they make.
 -- Assumes nothing.
 use mathlib.Core.Path.{_≡_, refl, sym, ap, subst, _∙_}
-use mathlib.Core.List.{List, _++_, append-assoc}
+use mathlib.Core.List.{List, [], _++_, append-assoc}
 use Prim.Native.Nat.{ℕ, _+_, _≤_}
 use native.Mathlib.Omega.{arith}
-use lib.ListN.{length, take, drop, length-append}
-use lib.Seq.{take-at, length-take-le}
+use lib.ListN.{length, take, drop, length-append, length-take, length-drop, take-append-drop}
+use lib.Seq.{drop-append-le}
 use Rattle.area.specs.Part.{part, splice}
-use Rattle.area.proofs.Parts.{part-all, length-splice}
+use Rattle.area.proofs.Parts.{part-all, length-part, length-splice, splice-splice}
 use Rattle.io.specs.Counts.{Counts}
 use Rattle.io.specs.Digits as kit
 use Rattle.io.specs.Digits.{Fewest}
@@ -17,33 +17,73 @@ use Rattle.lines.proofs.Decimal.{spelled}
 -- a word copied to its place is added there
 pub adds-copied : (area word area′ : List ℕ) (at : ℕ) → at + length word ≤ length area
     → area′ ≡ splice area at (length word) (part word 0 (length word)) → Adds area at word area′ (at + length word)
+adds-copied area word area′ at fits e = record {
+  endIs = refl;
+  within = fits;
+  areaIs = e ∙ ap (splice area at (length word)) (part-all word (length word) (omega arith));
+}
+
+-- no text yet
+pub adds-nothing : (area : List ℕ) → Adds area 0 [] area 0
 unfolding splice
-adds-copied area word area′ at fits e =
-    let e′ : area′ ≡ take at area ++ (word ++ drop (length word) (drop at area)) =
-    e ∙ ap (splice area at (length word)) (part-all word (length word) (omega arith)) in
-    record {
-      endIs = refl;
-      textIs =
-          ap (take (at + length word)) (e′ ∙ sym (append-assoc (take at area) word (drop (length word) (drop at area))))
-          ∙ take-at (take at area ++ word) (drop (length word) (drop at area)) (at + length word)
-          (length-append (take at area) word ∙ ap (λ (n : ℕ). n + length word) (length-take-le at area (omega arith)));
-      longAs = ap length e′ ∙ length-splice area at (length word) word fits refl;
-    }
+adds-nothing area = record { endIs = refl; within = omega arith; areaIs = refl }
+
+-- the area keeps its length
+pub adds-long : (area : List ℕ) (at : ℕ) (text area′ : List ℕ) (end : ℕ) → Adds area at text area′ end → length area′ ≡ length area
+adds-long area at text area′ end a = ap length (a .areaIs) ∙ length-splice area at (length text) text (omega (arith, a .endIs, a .within)) refl
 
 -- two texts, one behind the other, are one
 pub adds-both : (area : List ℕ) (at : ℕ) (first area₁ : List ℕ) (middle : ℕ) (second area₂ : List ℕ) (end : ℕ)
     → Adds area at first area₁ middle → Adds area₁ middle second area₂ end → Adds area at (first ++ second) area₂ end
-adds-both area at first area₁ middle second area₂ end a b = record {
-  endIs = omega (arith, a .endIs, b .endIs, length-append first second);
-  textIs = b .textIs ∙ ap (λ (l : List ℕ). l ++ second) (a .textIs) ∙ append-assoc (take at area) first second;
-  longAs = b .longAs ∙ a .longAs;
-}
+adds-both area at first area₁ middle second area₂ end a b =
+    let fits : at + length first ≤ length area = omega (arith, a .endIs, a .within) in
+    record {
+      endIs = omega (arith, a .endIs, b .endIs, length-append first second);
+      within = omega (arith, b .within, adds-long area at first area₁ middle a);
+      areaIs =
+          b .areaIs
+          ∙ ap (λ (l : List ℕ). splice l middle (length second) second) (a .areaIs)
+          ∙ ap (λ (m : ℕ). splice (splice area at (length first) first) m (length second) second) (a .endIs)
+          ∙ splice-splice area at (length first) (length second) first second fits refl
+          ∙ ap (λ (n : ℕ). splice area at n (first ++ second)) (sym (length-append first second));
+    }
 
 -- a text added to nothing is a line
-pub adds-shows : (area text area′ : List ℕ) (end : ℕ) → end ≤ length area → Adds area 0 text area′ end → Shows text area′ end
-adds-shows area text area′ end h a =
-    let fits : end ≤ length area′ = omega (arith, a .longAs) in
-    record { within = fits; counted = sym (length-take-le end area′ fits); textIs = a .textIs }
+pub adds-shows : (area text area′ : List ℕ) (end : ℕ) → Adds area 0 text area′ end → Shows text area area′ end
+unfolding splice
+adds-shows area text area′ end a =
+    let long : end ≡ length text = omega (arith, a .endIs) in
+    record { endIs = long; within = a .within; areaIs = a .areaIs ∙ ap (λ (n : ℕ). text ++ drop n area) (sym long) }
+
+-- a text at the start of a part
+text-in-part : (area : List ℕ) (at count : ℕ) (text : List ℕ) → at + count ≤ length area → length text ≤ count
+    → splice area at count (text ++ drop (length text) (part area at count)) ≡ splice area at (length text) text
+unfolding splice part
+text-in-part area at count text fits few =
+    ap (λ (l : List ℕ). take at area ++ l)
+    (append-assoc text (drop (length text) (take count (drop at area))) (drop count (drop at area)) ∙ ap (λ (l : List ℕ). text ++ l) rest)
+  where
+    long : length text ≤ length (take count (drop at area))
+    long = simp (length-take, length-drop) (omega arith)
+
+    rest : drop (length text) (take count (drop at area)) ++ drop count (drop at area) ≡ drop (length text) (drop at area)
+    rest =
+        sym (drop-append-le (length text) (take count (drop at area)) (drop count (drop at area)) long)
+        ∙ ap (drop (length text)) (take-append-drop count (drop at area))
+
+-- a line in a lent part is added to the area
+pub adds-lent : (area : List ℕ) (at count : ℕ) (text part′ area′ : List ℕ) (end : ℕ) → at + count ≤ length area
+    → Shows text (part area at count) part′ end → area′ ≡ splice area at count part′ → Adds area at text area′ (at + end)
+adds-lent area at count text part′ area′ end fits s e =
+    let few : end ≤ count = omega (arith, s .within, length-part area at count fits) in
+    record {
+      endIs = ap (λ (n : ℕ). at + n) (s .endIs);
+      within = omega arith;
+      areaIs =
+          e
+          ∙ ap (splice area at count) (s .areaIs ∙ ap (λ (n : ℕ). text ++ drop n (part area at count)) (s .endIs))
+          ∙ text-in-part area at count text fits (omega (arith, s .endIs));
+    }
 
 -- the digits of a number, as the kit wrote them, are added
 pub adds-number : (area : List ℕ) (at : ℕ) (digits area′ : List ℕ) (end count number : ℕ) → count ≤ 20 → Counts count digits → Fewest 10 1 number count

@@ -4,8 +4,9 @@ use Prim.Native.Nat.{ℕ, zero, suc, _+_, _/_, _%_, _≤_}
 use mathlib.Core.Path.{_≡_}
 use mathlib.Core.Bool.{cond}
 use mathlib.Core.List.{List, [], _∷_, _++_}
-use lib.ListN.{length, take}
+use lib.ListN.{length, drop}
 use lib.Dec.{ltb}
+use Rattle.area.specs.Part.{splice}
 use Rattle.block.specs.declared.Block.{Block}
 use Rattle.block.specs.declared.Kind.{Kind}
 use Rattle.block.specs.declared.Kind.the-variants.{Update, Commit, Clean}
@@ -77,6 +78,10 @@ field word number = word ++ decimal number
 
 -- ---- the lines
 
+-- the most bytes of a line
+abbrev pub lineMost : ℕ
+lineMost = 160
+
 -- the first line: N, M, k and the last committed ticket
 unfoldable pub firstLine : ℕ → ℕ → ℕ → ℕ → List ℕ
 firstLine slots newest keep ticket =
@@ -102,14 +107,14 @@ refusedLine refusal place = field refusedWord refusal ++ field spaceWord place +
 
 -- ---- what the functions that write a line promise
 
--- a text is added behind the first bytes of an area, and ends at end
+-- a text stands in an area from place at on and ends at end; every other byte is as it was
 pub record Adds (area : List ℕ) (at : ℕ) (text area′ : List ℕ) (end : ℕ) : Type 0 where
   pub endIs : end ≡ at + length text
-  pub textIs : take end area′ ≡ take at area ++ text
-  pub longAs : length area′ ≡ length area
-
--- the first bytes of an area are this text
-pub record Shows (text area : List ℕ) (end : ℕ) : Type 0 where
   pub within : end ≤ length area
-  pub counted : end ≡ length (take end area)
-  pub textIs : take end area ≡ text
+  pub areaIs : area′ ≡ splice area at (length text) text
+
+-- an area begins with a text, which ends at end; every byte behind it is as it was
+pub record Shows (text area area′ : List ℕ) (end : ℕ) : Type 0 where
+  pub endIs : end ≡ length text
+  pub within : end ≤ length area
+  pub areaIs : area′ ≡ text ++ drop end area

@@ -5,7 +5,7 @@ ghost use mathlib.Core.Path.{_≡_};
 ghost use mathlib.Core.List.{_++_};
 ghost use Prim.Native.Nat.{_+_, _≤_};
 ghost use lib.ListN.{length};
-ghost use Rattle.lines.specs.Text.{decimal, newline, field as fieldText, firstLine, kindText, blockLine, refusedLine, Adds, Shows};
+ghost use Rattle.lines.specs.Text.{decimal, newline, field as fieldText, lineMost, firstLine, kindText, blockLine, refusedLine, Adds, Shows};
 
 // The most bytes of a line.
 pub const LINE: usize = 160;
@@ -72,8 +72,8 @@ fn add_kind(out: &mut [u8], at: usize, kind: Kind) -> usize
 
 // Writes the first line of a listing and answers its length, as the two functions below do.
 pub fn first_line(out: &mut [u8], slots: u64, newest: u64, keep: u64, ticket: u64) -> usize
-    requires { ⌜ 160 ≤ length (now out) ⌝ }
-    ensures { λ r. ⌜ Shows (firstLine slots newest keep ticket) (now (out .exit)) r ⌝ }
+    requires { ⌜ lineMost ≤ length (now out) ⌝ }
+    ensures { λ r. ⌜ Shows (firstLine slots newest keep ticket) (now (out .entry)) (now (out .exit)) r ⌝ }
 {
     let end = add_field(out, 0, b"blocks ", slots);
     let end = add_field(out, end, b" newest ", newest);
@@ -84,8 +84,8 @@ pub fn first_line(out: &mut [u8], slots: u64, newest: u64, keep: u64, ticket: u6
 
 // Writes the line of a block.
 pub fn block_line(out: &mut [u8], block: Block) -> usize
-    requires { ⌜ 160 ≤ length (now out) ⌝ }
-    ensures { λ r. ⌜ Shows (blockLine block) (now (out .exit)) r ⌝ }
+    requires { ⌜ lineMost ≤ length (now out) ⌝ }
+    ensures { λ r. ⌜ Shows (blockLine block) (now (out .entry)) (now (out .exit)) r ⌝ }
 {
     let end = add_number(out, 0, block.sequence);
     let kind = block.kind;
@@ -96,8 +96,8 @@ pub fn block_line(out: &mut [u8], block: Block) -> usize
 
 // Writes the line of a refusal and its place.
 pub fn refused_line(out: &mut [u8], refusal: u64, place: u64) -> usize
-    requires { ⌜ 160 ≤ length (now out) ⌝ }
-    ensures { λ r. ⌜ Shows (refusedLine refusal place) (now (out .exit)) r ⌝ }
+    requires { ⌜ lineMost ≤ length (now out) ⌝ }
+    ensures { λ r. ⌜ Shows (refusedLine refusal place) (now (out .entry)) (now (out .exit)) r ⌝ }
 {
     let end = add_field(out, 0, b"refused ", refusal);
     let end = add_field(out, end, b" ", place);

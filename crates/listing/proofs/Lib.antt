@@ -1,4 +1,5 @@
 pub mod Finding
 pub mod Examining
 pub mod Showing
+pub mod Joining
 pub mod AsOpen

@@ -7,7 +7,7 @@ use Prim.Native.Nat.{ℕ, zero, suc, _+_, _-_, _*_, _/_, _≤_, _<_}
 use native.Mathlib.Omega.{arith}
 use lib.ListN.{length, getD}
 use borrow.Author.Tests.{eq-eqb, ne-eqb}
-use Rattle.area.proofs.Parts.{length-part}
+use Rattle.area.proofs.Parts.{either, length-part}
 use Rattle.block.specs.Kind.{lengthOf, updateBlock}
 use Rattle.block.specs.Legal.{legal}
 use Rattle.block.specs.declared.Kind as format
@@ -22,7 +22,7 @@ use Rattle.recovery.specs.Log.{bytesOf, headerOf, blockOf, blocksFrom}
 use Rattle.recovery.proofs.Scanning.{length-slot}
 use Rattle.lines.specs.Text.{firstLine, blockLine, lineOf, refusedLine, Shows}
 use Rattle.listing.specs.declared.Examined.{Examined}
-use Rattle.listing.specs.Listing.{shownLength, found, keepShown, linesFrom, blockLines, linesIn, linesOf, blocksShown, Accepts}
+use Rattle.listing.specs.Listing.{shownLength, found, keepShown, linesFrom, blockLines, linesIn, linesOf, blocksShown, Accepts, Examines}
 
 -- ---- a block's line
 
@@ -82,6 +82,13 @@ module _ (log : List ℕ) (examined : Examined) where
   pub count-accepted : Accepts log examined → length (linesOf log) ≡ suc (blocksShown examined)
   count-accepted a = ap length (lines-accepted a) ∙ ap suc (lines-length log (examined .keep) (blocksShown examined))
 
+  -- at most the first line and 128 blocks
+  pub lines-few : Examines log examined → length (linesOf log) ≤ 129
+  lines-few x =
+      either (examined .refusal) 1
+      (λ h. let a : Accepts log examined = x .accepted (omega arith) .1 in omega (arith, count-accepted a, a .blocksFew))
+      (λ h. omega (arith, count-refused (x .refused (λ z. omega arith) .foundIs)))
+
   pub first-shown : Accepts log examined → (index : ℕ) → index ≡ 0
       → firstLine (slotsIn (length log)) (examined .newest) (examined .keep) (examined .ticket) ≡ getD (linesOf log) index []
   first-shown a index z = sym (ap (λ (ls : List (List ℕ)). getD ls index []) (lines-accepted a) ∙ ap (λ (i : ℕ). getD (firstLine (slotsIn (length log)) (examined .newest) (examined .keep) (examined .ticket) ∷ linesFrom (examined .keep) (blocksFrom log (examined .keep) (blocksShown examined))) i []) z)
@@ -116,5 +123,5 @@ module _ (log : List ℕ) (examined : Examined) where
 pub shown-range : (size : ℕ) → shownLength size ≡ true → (size / 512 * 512 ≡ size) × (8 ≤ size / 512) × (size / 512 ≤ 128)
 shown-range size h = let g = simp tests at h in omega arith
 
-pub shows-as : (text text′ area : List ℕ) (end : ℕ) → text ≡ text′ → Shows text area end → Shows text′ area end
-shows-as text text′ area end e s = subst (λ (t : List ℕ). Shows t area end) e s
+pub shows-as : (text text′ area area′ : List ℕ) (end : ℕ) → text ≡ text′ → Shows text area area′ end → Shows text′ area area′ end
+shows-as text text′ area area′ end e s = subst (λ (t : List ℕ). Shows t area area′ end) e s

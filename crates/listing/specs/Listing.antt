@@ -1,9 +1,9 @@
 -- What `logshow` lists: the lines of a log, by what Open finds in it with P 4,096 and F 32.
 -- Assumes nothing.
-use Prim.Native.Nat.{ℕ, zero, suc, _+_, _-_, _≤_, _<_}
+use Prim.Native.Nat.{ℕ, zero, suc, _+_, _-_, _*_, _≤_, _<_}
 use mathlib.Core.Path.{_≡_}
 use mathlib.Core.Bool.{Bool, true, cond, _&&_}
-use mathlib.Core.List.{List, [], _∷_}
+use mathlib.Core.List.{List, [], _∷_, flatten}
 use lib.ListN.{length}
 use lib.Dec.{eqb, leb}
 use Rattle.block.specs.Sizes.{blockSize, sequenceEnd}
@@ -14,7 +14,7 @@ use Rattle.promises.specs.Blocks.{LogBlock, slotsOf}
 use Rattle.promises.specs.Newest.{Gathered, missing, blocks, keepOf, gathered}
 use Rattle.promises.specs.Walk.{Walk, Finding, stops, stands, finding}
 use Rattle.recovery.specs.Log.{headerOf, blocksFrom}
-use Rattle.lines.specs.Text.{firstLine, lineOf, refusedLine}
+use Rattle.lines.specs.Text.{lineMost, firstLine, lineOf, refusedLine}
 use Rattle.listing.specs.declared.Examined.{Examined}
 
 -- P and F of the store as which `logshow` answers
@@ -60,6 +60,14 @@ linesIn log (stands next walk) =
 -- THE LINES OF A LOG
 unfoldable pub linesOf : List ℕ → List (List ℕ)
 linesOf log = linesIn log (found log)
+
+-- THE TEXT OF A LOG: its lines, one behind the other
+abbrev pub textOf : List ℕ → List ℕ
+textOf log = flatten (linesOf log)
+
+-- the most bytes of a text: the first line and 128 blocks
+abbrev pub textMost : ℕ
+textMost = 129 * lineMost
 
 -- ---- what an examination tells
 

@@ -1,5 +1,5 @@
-// What a log says, for a reader: it is examined as Open would with 4,096 pages and 32 frames, and its lines are written one by one. No
-// home, no frames and no staging are needed.
+// What a log says, for a reader: it is examined as Open would with 4,096 pages and 32 frames, and its lines are written one by one, or all
+// as one text. No home, no frames and no staging are needed.
 use block::Block;
 use outline::Course;
 ghost use mathlib.Core.Path.{_≡_};
@@ -7,17 +7,21 @@ ghost use mathlib.Core.Bool.{_&&_};
 ghost use Prim.Native.Nat.{ℕ, _+_, _-_, _*_, _≤_, _<_};
 ghost use lib.ListN.{length, getD};
 ghost use mathlib.Core.List.{[]};
+ghost use Rattle.io.specs.Counts.{Counts};
 ghost use Rattle.block.specs.Sizes.{blockSize, sequenceEnd};
 ghost use Rattle.recovery.specs.Log.{headerOf};
-ghost use Rattle.lines.specs.Text.{Shows};
+ghost use Rattle.lines.specs.Text.{lineMost, Shows};
 ghost use Rattle.outline.specs.Outline.{steps, started, sketchIn, Bounded, Ordinary};
-ghost use Rattle.listing.specs.Listing.{shownLength, linesOf, headersFrom, refusedWith, Examines};
+ghost use Rattle.listing.specs.Listing.{shownLength, linesOf, textOf, textMost, headersFrom, refusedWith, Examines};
 
 // The pages of the store as which the log is examined.
 const PAGES: usize = 4096;
 
 // The most slots of a log that is shown.
-const SLOTS: usize = 128;
+pub const SLOTS: usize = 128;
+
+// The most bytes of a log's text: the first line, and one for each slot.
+pub const TEXT: usize = (SLOTS + 1) * lines::LINE;
 
 // What an examination tells: the number of the refusal, 0 for none, and its place; or the newest sequence, its keep-from and the last
 // committed ticket.
@@ -137,8 +141,8 @@ pub fn line_count(log: &[u8], examined: Examined) -> usize
 
 // Writes line number index of a log that is examined, and answers its length.
 pub fn line(log: &[u8], examined: Examined, index: usize, out: &mut [u8]) -> usize
-    requires { ⌜ Examines (now log) examined × (index < length (linesOf (now log))) × (160 ≤ length (now out)) ⌝ }
-    ensures { λ r. ⌜ Shows (getD (linesOf (now (log .entry))) index []) (now (out .exit)) r ⌝ }
+    requires { ⌜ Examines (now log) examined × (index < length (linesOf (now log))) × (lineMost ≤ length (now out)) ⌝ }
+    ensures { λ r. ⌜ Shows (getD (linesOf (now (log .entry))) index []) (now (out .entry)) (now (out .exit)) r ⌝ }
 {
     if examined.refusal != 0 {
         return lines::refused_line(out, examined.refusal, examined.place);
@@ -151,15 +155,20 @@ pub fn line(log: &[u8], examined: Examined, index: usize, out: &mut [u8]) -> usi
     lines::block_line(out, block)
 }
 
-// Writes the lines of a log to standard output.
-pub fn show(log: &[u8]) {
+// Writes all lines of a log, one behind the other, and answers how many bytes they are. That r counts bytes of out follows from the text: it
+// is stated for `&out[..r]`.
+pub fn text(log: &[u8], out: &mut [u8]) -> usize
+    requires { ⌜ textMost ≤ length (now out) ⌝ }
+    ensures { λ r. ⌜ Shows (textOf (now (log .entry))) (now (out .entry)) (now (out .exit)) r ⌝ }
+    ensures { λ r. ⌜ Counts r (now (out .exit)) ⌝ }
+{
     let examined = examine(log);
     let count = line_count(log, examined);
-    let mut out = [0; lines::LINE];
+    let mut at = 0;
     let mut index = 0;
     while index < count {
-        let size = line(log, examined, index, &mut out);
-        io::write_all(1, &out[..size]);
+        at += line(log, examined, index, &mut out[at..at + lines::LINE]);
         index += 1;
     }
+    at
 }

@@ -56,16 +56,23 @@ fn group(log: &mut [u8], sequence: u64, page: usize, updates: usize, ticket: u64
     commit(log, sequence + updates as u64, 1, updates, ticket + 1);
 }
 
+// Writes the text of a log to standard output.
+fn show(log: &[u8]) {
+    let mut out = [0; listing::TEXT];
+    let end = listing::text(log, &mut out);
+    io::write_all(1, &out[..end]);
+}
+
 // A log without a block; then a half group, which is void; then it is committed; then its page is clean.
 fn small() {
     let mut log = [0; 4096];
-    listing::show(&log);
+    show(&log);
     update(&mut log, 1, 1, 1, 0, 0);
-    listing::show(&log);
+    show(&log);
     commit(&mut log, 2, 1, 1, 1);
-    listing::show(&log);
+    show(&log);
     clean(&mut log, 3, 3, 0, 1);
-    listing::show(&log);
+    show(&log);
 }
 
 // A log of 8 slots that has wrapped: blocks 7 to 10 stand in slots 7, 0, 1 and 2, an old block in slot 3.
@@ -76,21 +83,21 @@ fn wrapped() {
     commit(&mut log, 8, 7, 1, 4);
     update(&mut log, 9, 7, 1, 2, 4);
     commit(&mut log, 10, 7, 1, 5);
-    listing::show(&log);
+    show(&log);
 }
 
 // Logs that are damaged: no valid slot but a damaged one; blocks 2 and 3 missing; and logs of a wrong length.
 fn damaged() {
     let mut log = [0; 4096];
     log[100] = 1;
-    listing::show(&log);
+    show(&log);
     update(&mut log, 1, 1, 1, 0, 0);
     commit(&mut log, 4, 1, 1, 1);
-    listing::show(&log);
+    show(&log);
     let few = [0; 3584];
-    listing::show(&few);
+    show(&few);
     let torn = [0; 4095];
-    listing::show(&torn);
+    show(&torn);
 }
 
 // Damaged ends: the slot after the newest block; a slot further on, which is no end; the newest block; an older one as well.
@@ -98,15 +105,15 @@ fn damaged_ends() {
     let mut log = [0; 4096];
     group(&mut log, 1, 0, 1, 0);
     log[1636] = 1;
-    listing::show(&log);
+    show(&log);
     let mut further = [0; 4096];
     group(&mut further, 1, 0, 1, 0);
     further[2148] = 1;
-    listing::show(&further);
+    show(&further);
     further[1124] = 1;
-    listing::show(&further);
+    show(&further);
     log[612] = 1;
-    listing::show(&log);
+    show(&log);
 }
 
 // The last block that there may be, in slot 7: a damaged slot after it, and an older block there.
@@ -114,11 +121,11 @@ fn last_end() {
     let mut log = [0; 4096];
     clean(&mut log, 281474976710655, 281474976710655, 0, 1);
     log[100] = 1;
-    listing::show(&log);
+    show(&log);
     let mut older = [0; 4096];
     clean(&mut older, 281474976710655, 281474976710655, 0, 1);
     clean(&mut older, 281474976710648, 281474976710648, 0, 1);
-    listing::show(&older);
+    show(&older);
 }
 
 // Logs out of order: an update whose index is neither 1 nor the next, a commit that does not close its group, a wrong ticket.
@@ -126,12 +133,12 @@ fn disordered() {
     let mut log = [0; 4096];
     update(&mut log, 1, 1, 1, 0, 0);
     update(&mut log, 2, 1, 3, 1, 0);
-    listing::show(&log);
+    show(&log);
     commit(&mut log, 2, 1, 2, 1);
-    listing::show(&log);
+    show(&log);
     commit(&mut log, 2, 1, 1, 1);
     clean(&mut log, 3, 1, 0, 2);
-    listing::show(&log);
+    show(&log);
 }
 
 // What cleaning needs is not within 8 slots: four dirty pages in eight blocks.
@@ -141,7 +148,7 @@ fn crowded() {
     group(&mut log, 3, 1, 1, 1);
     group(&mut log, 5, 2, 1, 2);
     group(&mut log, 7, 3, 1, 3);
-    listing::show(&log);
+    show(&log);
 }
 
 // The third group leaves 33 pages dirty; before it there are 32, which 128 slots allow.
@@ -149,9 +156,9 @@ fn many() {
     let mut log = [0; 65536];
     group(&mut log, 1, 0, 16, 0);
     group(&mut log, 18, 16, 16, 1);
-    listing::show(&log);
+    show(&log);
     group(&mut log, 35, 32, 1, 2);
-    listing::show(&log);
+    show(&log);
 }
 
 fn main() {

@@ -1,6 +1,5 @@
 -- `lines::block_line` meets its contract: the sequence, the kind's text, the ticket and a newline.
 -- Assumes nothing.
-use native.Mathlib.Omega.{arith}
 use borrow.Author.Needs.{needs}
 use Rattle.lines.specs.Text.{blockLine}
 use Rattle.lines.proofs.Adding.{adds-both, adds-shows}
@@ -33,7 +32,7 @@ returns c =
     let g = (c .before .before .before .before .before .before .before .before .before .before .before) .add-kind .ensures in
     let h = (c .before .before .before .before .before .before) .add-field .ensures in
     let j = (c .before .before) .end-line .ensures in
-    adds-shows o _ _ _ (omega (arith, j .endIs))
+    adds-shows o _ _ _
     (adds-both o 0 _ _ _ _ _ _ (adds-both o 0 _ _ _ _ _ _ (adds-both o 0 _ _ _ _ _ _ (f .0) (g .0)) (h .0)) j)
 
 pub block-line-spec : {M : Type 1} → statement M

@@ -1,6 +1,5 @@
 -- `lines::first_line` meets its contract: four fields and a newline.
 -- Assumes nothing.
-use native.Mathlib.Omega.{arith}
 use borrow.Author.Needs.{needs}
 use Rattle.lines.specs.Text.{firstLine}
 use Rattle.lines.proofs.Adding.{adds-both, adds-shows}
@@ -46,7 +45,7 @@ returns c =
     let h = (c .before .before .before .before .before .before .before .before .before .before .before) .add-field3 .ensures in
     let i = (c .before .before .before .before .before .before) .add-field4 .ensures in
     let j = (c .before .before) .end-line .ensures in
-    adds-shows o _ _ _ (omega (arith, j .endIs))
+    adds-shows o _ _ _
     (adds-both o 0 _ _ _ _ _ _ (adds-both o 0 _ _ _ _ _ _ (adds-both o 0 _ _ _ _ _ _ (adds-both o 0 _ _ _ _ _ _ (f .0) (g .0)) (h .0)) (i .0)) j)
 
 pub first-line-spec : {M : Type 1} → statement M

@@ -1,6 +1,5 @@
 -- `lines::refused_line` meets its contract: two fields and a newline.
 -- Assumes nothing.
-use native.Mathlib.Omega.{arith}
 use borrow.Author.Needs.{needs}
 use Rattle.lines.specs.Text.{refusedLine}
 use Rattle.lines.proofs.Adding.{adds-both, adds-shows}
@@ -32,7 +31,7 @@ returns c =
     let f = (c .before .before .before .before .before .before .before .before .before .before .before) .add-field .ensures in
     let g = (c .before .before .before .before .before .before) .add-field2 .ensures in
     let j = (c .before .before) .end-line .ensures in
-    adds-shows o _ _ _ (omega (arith, j .endIs)) (adds-both o 0 _ _ _ _ _ _ (adds-both o 0 _ _ _ _ _ _ (f .0) (g .0)) j)
+    adds-shows o _ _ _ (adds-both o 0 _ _ _ _ _ _ (adds-both o 0 _ _ _ _ _ _ (f .0) (g .0)) j)
 
 pub refused-line-spec : {M : Type 1} → statement M
 refused-line-spec =

@@ -19,7 +19,7 @@ returns : tie.Need-returns
 returns c =
     let a = (c .before .before .before .before .before .before .before .before) .args in
     let p = (c .before .before .before .before .before .before .before .before) .pre in
-    shows-as _ _ _ _ (refused-shown (a .log .now) (a .examined) (p .0 .refused ((c .before .before .before .before) .if1 .taken) .foundIs) (a .index) (p .1)) ((c .before .before) .refused-line .ensures)
+    shows-as _ _ _ _ _ (refused-shown (a .log .now) (a .examined) (p .0 .refused ((c .before .before .before .before) .if1 .taken) .foundIs) (a .index) (p .1)) ((c .before .before) .refused-line .ensures)
 
 first-line-requires : tie.Need-first-line-requires
 first-line-requires c κs = search needs
@@ -31,7 +31,7 @@ returns-2 : tie.Need-returns-2
 returns-2 c =
     let a = (c .before .before .before .before .before .before .before .before .before) .args in
     let p = (c .before .before .before .before .before .before .before .before .before) .pre in
-    shows-as _ _ _ _ (first-shown (a .log .now) (a .examined) (p .0 .accepted ((c .before .before .before .before .before) .if1 .left) .1) (a .index) ((c .before .before .before .before) .if2 .taken)) ((c .before .before) .first-line .ensures)
+    shows-as _ _ _ _ _ (first-shown (a .log .now) (a .examined) (p .0 .accepted ((c .before .before .before .before .before) .if1 .left) .1) (a .index) ((c .before .before .before .before) .if2 .taken)) ((c .before .before) .first-line .ensures)
 
 sub-header : tie.Need-sub-header
 sub-header c = search needs
@@ -59,7 +59,7 @@ returns-3 c =
     let p = (c .before .before .before .before .before .before .before .before .before .before .before) .pre in
     let x = p .0 .accepted ((c .before .before .before .before .before .before .before) .if1 .left) in
     let h = (c .before .before .before .before) .header .ensures in
-    shows-as _ _ _ _
+    shows-as _ _ _ _ _
     (ap blockLine h ∙ block-shown (a .log .now) (a .examined) (x .1) (omega (arith, shown-range (length (a .log .now)) (x .0))) (a .index) (p .1) ((c .before .before .before .before .before .before) .if2 .left) _ refl)
     ((c .before .before) .block-line .ensures)
 
