@@ -12,12 +12,13 @@ use Rattle.promises.specs.LogStep.{LogSteps}
 use Rattle.promises.specs.CleanStep.{CleanSteps}
 use Rattle.promises.specs.Events.{World, Call, opening, begin, describe, ending, logStep, cleanStep, reading, settling, Step}
 use Rattle.promises.specs.Answers.{Reply}
-use Rattle.promises.specs.Corollaries.{EveryReply, StaysSettled, AllOrNothing, NoTrace, OpensAlike}
+use Rattle.promises.specs.Corollaries.{EveryReply, TicketsInOrder, StaysSettled, AllOrNothing, NoTrace, OpensAlike}
 use Rattle.promises.specs.SilentLoss.{NoSilentLoss, SettledStored, NoOtherPages}
 use Rattle.promises.specs.Alike.{CallsAlike, DesksAlike}
 use Rattle.promises.specs.Waiting.{WaitBound}
 use Rattle.promises.proofs.Accounts.{book-accounts}
 use Rattle.promises.proofs.Refines.{Refines, demand-three-by}
+use Rattle.promises.proofs.Tickets.{tickets-in-order}
 use Rattle.promises.proofs.Corollaries.{every-reply, stays-settled, all-or-nothing, no-trace, opens-alike}
 use Rattle.promises.proofs.SilentLoss.{no-silent-loss, settled-stored, no-other-pages}
 use Rattle.promises.proofs.DesksAlike.{calls-alike, desks-alike}
@@ -102,6 +103,10 @@ accounted = book-accounts shipped
 -- every accepted reply inside a run is the book's, as it was before that call
 pub replies-the-book : EveryReply shipped
 replies-the-book = every-reply shipped keeps-promises
+
+-- the t-th committed transaction is a list that an End gave ticket t
+pub tickets-are-places : TicketsInOrder shipped
+tickets-are-places = tickets-in-order shipped keeps-promises
 
 -- a settled ticket stays settled over every cut
 pub settled-stays : StaysSettled shipped

@@ -31,4 +31,5 @@ pub mod LogTurns
 pub mod CleanTurns
 pub mod WaitBound
 pub mod Corollaries
+pub mod Tickets
 pub mod DesksAlike

@@ -5,12 +5,13 @@ use mathlib.Core.Logic.{_⊎_}
 use Prim.Native.Nat.{ℕ, _+_, _≤_, _<_}
 use mathlib.Core.Bool.{Bool, true, false, cond}
 use mathlib.Core.List.{List, [], _∷_, _++_}
+use lib.ListN.{length}
 use lib.Dec.{leb}
 use Rattle.promises.specs.Areas.{pageAt}
 use Rattle.promises.specs.Updates.{Update, redo, ofPage}
 use Rattle.promises.specs.Book.{Book}
 use Rattle.promises.specs.Events.{Sizes, World, withState, Call, opening, begin, describe, ending, logStep, cleanStep, reading, settling, Lent, leftBy, fallen}
-use Rattle.promises.specs.Answers.{Reply, refuses, shows, says, accepts}
+use Rattle.promises.specs.Answers.{Reply, refuses, gives, shows, says, accepts}
 use Rattle.promises.specs.Claim.{
   Right,
   Steps,
@@ -68,6 +69,21 @@ RepliesRight (cutUnfit call reply lent lent′ frames staging run same step refu
 
 abbrev pub EveryReply : Steps → Type 0
 EveryReply by = (sizes : Sizes) → InRange sizes → (world : World) (book : Book) (run : Run by sizes world book) → RepliesRight run
+
+-- ---- tickets: the t-th committed transaction is a list that an End of the run gave ticket t
+
+-- an End of the run gave this ticket, and this was the open list
+unfoldable pub Gave : {by : Steps} {sizes : Sizes} {world : World} {book : Book} → ℕ → List Update → Run by sizes world book → Type 0
+Gave ticket list (formatted log log′ home frames staging answer logLong homeLong formats worldIs bookIs) = ⊥
+Gave ticket list (called {book = book} call reply run lent step bookIs) =
+    ((call ≡ ending) × (reply ≡ gives ticket) × (book .list ≡ list)) ⊎ Gave ticket list run
+Gave ticket list (unfit call reply lent lent′ run same step refused worldIs bookIs) = Gave ticket list run
+Gave ticket list (cut call reply world′ stored frames staging run lent step worldIs bookIs) = Gave ticket list run
+Gave ticket list (cutUnfit call reply lent lent′ frames staging run same step refused worldIs bookIs) = Gave ticket list run
+
+abbrev pub TicketsInOrder : Steps → Type 0
+TicketsInOrder by = (sizes : Sizes) → InRange sizes → (world : World) (book : Book) (run : Run by sizes world book)
+    → (before after : List (List Update)) (list : List Update) → committedBy run ≡ before ++ (list ∷ after) → Gave (length before + 1) list run
 
 -- ---- whole transactions
 
