@@ -24,7 +24,7 @@ use Rattle.promises.specs.DirtyPages.{DirtyPage, at, lookUp, without}
 use Rattle.promises.specs.Contents.{dirtyOf}
 use Rattle.promises.specs.Sums.{firstGroups, halfStarts, groupStart, smallest, sequencesTaken}
 use Rattle.promises.specs.Sound.{allBelow, dirtyNumbers}
-use Rattle.promises.proofs.Soundness.{Sound}
+use Rattle.promises.proofs.Soundness.{Sound, parts-of, of-parts}
 use Rattle.promises.proofs.SoundFacts.{length-dirty, keepFrom-dirty}
 use Rattle.promises.proofs.Changes.{below-more, held-is, smallest-le}
 use Rattle.promises.proofs.History.Whole.{without-less}
@@ -104,26 +104,21 @@ sound-clean s frames page e dirty f none more found holds =
     (each-below (s .pages) (s .next + 1) frames 0 (s .dirty) (f .pagesBelow) (below-more (s .next) (s .next + 1) (firstGroups (s .dirty)) (omega arith) (f .firstsBelow)))) in
     let h : smallest (s .next) (halfStarts s ++ firstGroups (s .dirty)) ≡ keep = held-is s in
     let h′ : smallest (s .next + 1) (halfStarts (cleanDone s dirty) ++ firstGroups dirty) ≡ smallest (s .next + 1 - s .stored) (firstGroups dirty) = held-is (cleanDone s dirty) in
-    record {
-      pages = f .pages;
-      slots = f .slots;
-      frames = f .frames;
-      distinctPages = holds .tableDistinct;
-      pagesBelow = below .0;
-      framesBelow = holds .within;
-      firstsBelow = below .1;
-      cleaning = refl;
-      distinctAreas = f .distinctAreas;
-      areasBelow = f .areasBelow;
-      places = f .places;
+    of-parts (record {
+      sizes = parts-of f .sizes;
+      dirty = record {
+        distinctPages = holds .tableDistinct;
+        pagesBelow = below .0;
+        framesBelow = holds .within;
+        firstsBelow = below .1;
+        cleaning = refl;
+      };
+      waiting = parts-of f .waiting;
+      groups = parts-of f .groups;
+      transaction = parts-of f .transaction;
       ticket = omega (arith, f .ticket);
-      queued = f .queued;
       staged = f .staged;
-      groups = f .groups;
-      stored = f .stored;
-      reserved = f .reserved;
-      described = f .described;
       slotSum = omega (arith, f .slotSum, h, h′, least, count, own);
       frameSum = omega (arith, f .frameSum, count);
       sequenceSum = omega (arith, f .sequenceSum, more);
-    }
+    })

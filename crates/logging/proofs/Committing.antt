@@ -21,7 +21,7 @@ use Rattle.promises.specs.DirtyPages.{DirtyPage, Found, absent, at, lookUp, app
 use Rattle.promises.specs.Contents.{waiting, total, groupsOf, dirtyOf}
 use Rattle.promises.specs.Sums.{firstGroups, groupStart, halfStarts, smallest, blockCount}
 use Rattle.promises.specs.Sound.{member, allBelow, allLegal, sizesLegal, ofOldest, names, dirtyNumbers, stagedOf}
-use Rattle.promises.proofs.Soundness.{and-both, and2, Sound}
+use Rattle.promises.proofs.Soundness.{and-both, and2, Sound, parts-of, of-parts}
 use Rattle.promises.proofs.Changes.{below-more, held-is, smallest-le}
 use Rattle.promises.proofs.SoundFacts.{length-dirty, keepFrom-dirty}
 use Rattle.promises.proofs.History.Sees.{lookUp-other}
@@ -153,26 +153,29 @@ module _ (s : State) (f : Sound s) (some : 1 ≤ s .queued) (whole : sizeOf s �
       let b : blockCount (groupsOf s) ≡ sizeOf s + 1 + blockCount (groupsOf after) = ap blockCount groups-are in
       let h : smallest (s .next) (halfStarts s ++ firstGroups (s .dirty)) ≡ keep = held-is s in
       let k : keep ≤ groupStart s = smallest-le (groupStart s) (firstGroups (s .dirty)) in
-      record {
-        pages = f .pages;
-        slots = f .slots;
-        frames = f .frames;
-        distinctPages = holds .tableDistinct;
-        pagesBelow = below .0;
-        framesBelow = holds .within;
-        firstsBelow = below .1;
-        cleaning = names-still (s .cleaning) (f .cleaning);
-        distinctAreas = distinct-behind (take (sizeOf s) (s .staged)) (stagedOf after) (rw waited at (f .distinctAreas));
-        areasBelow = below-behind (s .frames) (take (sizeOf s) (s .staged)) (stagedOf after) (rw waited at (f .areasBelow));
-        places = legal-behind (s .pages) (take (sizeOf s) (s .staged)) (stagedOf after) (rw waited at (f .places));
+      of-parts (record {
+        sizes = parts-of f .sizes;
+        dirty = record {
+          distinctPages = holds .tableDistinct;
+          pagesBelow = below .0;
+          framesBelow = holds .within;
+          firstsBelow = below .1;
+          cleaning = names-still (s .cleaning) (f .cleaning);
+        };
+        waiting = record {
+          distinctAreas = distinct-behind (take (sizeOf s) (s .staged)) (stagedOf after) (rw waited at (f .distinctAreas));
+          areasBelow = below-behind (s .frames) (take (sizeOf s) (s .staged)) (stagedOf after) (rw waited at (f .areasBelow));
+          places = legal-behind (s .pages) (take (sizeOf s) (s .staged)) (stagedOf after) (rw waited at (f .places));
+        };
+        groups = record {
+          groups = and-both (leb 1 (sizeOf s) && leb (sizeOf s) 16) (sizesLegal (groupsOf after)) (rw groups-are at (f .groups)) .1;
+          queued = omega (arith, f .queued, length-shifted (s .groups) 1 (omega (arith, f .queued)));
+          stored = none-stored (groupsOf after);
+        };
+        transaction = parts-of f .transaction;
         ticket = omega (arith, f .ticket);
-        queued = omega (arith, f .queued, length-shifted (s .groups) 1 (omega (arith, f .queued)));
         staged = omega (arith, f .staged, t, length-shifted (s .staged) (sizeOf s) size-few);
-        groups = and-both (leb 1 (sizeOf s) && leb (sizeOf s) 16) (sizesLegal (groupsOf after)) (rw groups-are at (f .groups)) .1;
-        stored = none-stored (groupsOf after);
-        reserved = f .reserved;
-        described = f .described;
         slotSum = omega (arith, f .slotSum, f .ticket, h, k, t, b, keep-least, count-most, stored-is);
         frameSum = omega (arith, f .frameSum, t, count-most);
         sequenceSum = omega (arith, f .sequenceSum, b, stored-is);
-      }
+      })

@@ -35,7 +35,7 @@ use Rattle.promises.specs.Blocks.{stored}
 use Rattle.promises.specs.LogStep.{updateBlock, updateStoredState, UpdateStep}
 use Rattle.promises.specs.Read.{Held, atHome, inFrame, heldIn}
 use Rattle.promises.proofs.Replies.{replied-accepted}
-use Rattle.promises.proofs.Soundness.{and-both, and2, Sound, sound-of, of-sound}
+use Rattle.promises.proofs.Soundness.{and-both, and2, Sound, sound-of, of-sound, parts-of, of-parts}
 
 -- ---- refusals taken apart
 pub pick-zero : (b : Bool) (x k : ℕ) → 0 < k → cond b x k ≡ 0 → (b ≡ true) × (x ≡ 0)
@@ -69,29 +69,25 @@ sound-opened s u f z lo hi a b c =
     let o : openOnes (begunState s u) ≡ u ∷ [] = one-open u (λ e. omega arith) in
     let t1 : total (openOnes (begunState s u)) ≡ u = ap total o ∙ omega arith in
     let t2 : blockCount (openOnes (begunState s u)) ≡ u + 1 = ap blockCount o ∙ omega arith in
-    record {
-      pages = f .pages;
-      slots = f .slots;
-      frames = f .frames;
-      distinctPages = f .distinctPages;
-      pagesBelow = f .pagesBelow;
-      framesBelow = f .framesBelow;
-      firstsBelow = f .firstsBelow;
-      cleaning = f .cleaning;
-      distinctAreas = rw st (f .distinctAreas);
-      areasBelow = rw st (f .areasBelow);
-      places = rw st (f .places);
+    of-parts (record {
+      sizes = parts-of f .sizes;
+      dirty = parts-of f .dirty;
+      waiting = record {
+        distinctAreas = rw st (f .distinctAreas);
+        areasBelow = rw st (f .areasBelow);
+        places = rw st (f .places);
+      };
+      groups = parts-of f .groups;
+      transaction = record {
+        reserved = hi;
+        described = omega arith;
+      };
       ticket = f .ticket;
-      queued = f .queued;
       staged = omega (arith, f .staged);
-      groups = f .groups;
-      stored = f .stored;
-      reserved = hi;
-      described = omega arith;
       slotSum = omega (arith, t1, t2);
       frameSum = omega (arith, t1);
       sequenceSum = omega (arith, t2);
-    }
+    })
 
 pub begin-met : (s : State) (u : ℕ) → beginRefusal s u ≡ 0 → Begins s u (record { state = begunState s u; answer = Done })
 unfolding beginRefusal
@@ -165,29 +161,29 @@ sound-closed s f n m h =
     let t1 : total (openOnes s) ≡ s .reserved = ap total o ∙ omega arith in
     let t2 : blockCount (openOnes s) ≡ s .reserved + 1 = ap blockCount o ∙ omega arith in
     let sf : s .stored ≤ blockCount (groupsOf s) = stored-few (s .stored) (groupsOf s) (f .stored) in
-    record {
-      pages = f .pages;
-      slots = f .slots;
-      frames = f .frames;
-      distinctPages = f .distinctPages;
-      pagesBelow = f .pagesBelow;
-      framesBelow = f .framesBelow;
-      firstsBelow = f .firstsBelow;
-      cleaning = f .cleaning;
-      distinctAreas = rw st (f .distinctAreas);
-      areasBelow = rw st (f .areasBelow);
-      places = rw st (f .places);
+    of-parts (record {
+      sizes = parts-of f .sizes;
+      dirty = parts-of f .dirty;
+      waiting = record {
+        distinctAreas = rw st (f .distinctAreas);
+        areasBelow = rw st (f .areasBelow);
+        places = rw st (f .places);
+      };
+      groups = record {
+        groups = rw g (groups-snoc (groupsOf s) d (f .groups) lo hi);
+        queued = omega (arith, length-set (s .groups) (s .queued) d);
+        stored = rw g (stored-snoc (s .stored) (groupsOf s) d (f .stored));
+      };
+      transaction = record {
+        reserved = omega arith;
+        described = omega arith;
+      };
       ticket = f .ticket;
-      queued = omega (arith, length-set (s .groups) (s .queued) d);
       staged = omega (arith, tg, f .staged);
-      groups = rw g (groups-snoc (groupsOf s) d (f .groups) lo hi);
-      stored = rw g (stored-snoc (s .stored) (groupsOf s) d (f .stored));
-      reserved = omega arith;
-      described = omega arith;
       slotSum = omega (arith, f .slotSum, f .described, t1, t2, tg, bg, sf);
       frameSum = omega (arith, f .frameSum, f .described, t1, tg);
       sequenceSum = omega (arith, f .sequenceSum, f .described, t2, bg, sf);
-    }
+    })
 
 pub end-met : (s : State) → length (s .groups) ≡ 32 → endRefusal s ≡ 0 → Ends s (record { state = endedState s; answer = Ticket (s .ticket + s .queued + 1) })
 unfolding endRefusal
@@ -259,29 +255,28 @@ sound-update s staging g q f e h =
     let nn : s .next + 1 - (s .stored + 1) ≡ s .next - s .stored = omega arith in
     let h2 : smallest (s .next + 1) (halfStarts (updateStoredState s) ++ firstGroups (s .dirty)) ≡ x = held-is (updateStoredState s) ∙ ap (λ (n : ℕ). smallest n (firstGroups (s .dirty))) nn in
     let le : x ≤ s .next - s .stored = smallest-le (s .next - s .stored) (firstGroups (s .dirty)) in
-    record {
-      pages = f .pages;
-      slots = f .slots;
-      frames = f .frames;
-      distinctPages = f .distinctPages;
-      pagesBelow = f .pagesBelow;
-      framesBelow = f .framesBelow;
-      firstsBelow = below-more (s .next) (s .next + 1) (firstGroups (s .dirty)) (omega arith) (f .firstsBelow);
-      cleaning = f .cleaning;
-      distinctAreas = f .distinctAreas;
-      areasBelow = f .areasBelow;
-      places = f .places;
+    of-parts (record {
+      sizes = parts-of f .sizes;
+      dirty = record {
+        distinctPages = f .distinctPages;
+        pagesBelow = f .pagesBelow;
+        framesBelow = f .framesBelow;
+        firstsBelow = below-more (s .next) (s .next + 1) (firstGroups (s .dirty)) (omega arith) (f .firstsBelow);
+        cleaning = f .cleaning;
+      };
+      waiting = parts-of f .waiting;
+      groups = record {
+        groups = f .groups;
+        queued = f .queued;
+        stored = st;
+      };
+      transaction = parts-of f .transaction;
       ticket = omega (arith, f .ticket);
-      queued = f .queued;
       staged = f .staged;
-      groups = f .groups;
-      stored = st;
-      reserved = f .reserved;
-      described = f .described;
       slotSum = omega (arith, f .slotSum, h1, h2, few);
       frameSum = f .frameSum;
       sequenceSum = omega (arith, f .sequenceSum, few);
-    }
+    })
 
 -- the promise of an update's store, met by this state and a log with the block in its slot
 pub update-met : (s : State) (g : List Update) (q : List (List Update)) (log frames staging : List ℕ) → sound s ≡ true → queueOf s staging ≡ g ∷ q → s .stored < length g
@@ -293,29 +288,24 @@ update-met s g q log frames staging so e h =
 
 pub sound-cleaning : (s : State) (c : Cleaning) → Sound s → names c (dirtyNumbers (s .dirty)) ≡ true → Sound (setCleaning s c)
 sound-cleaning s c f h =
-    record {
-      pages = f .pages;
-      slots = f .slots;
-      frames = f .frames;
-      distinctPages = f .distinctPages;
-      pagesBelow = f .pagesBelow;
-      framesBelow = f .framesBelow;
-      firstsBelow = f .firstsBelow;
-      cleaning = h;
-      distinctAreas = f .distinctAreas;
-      areasBelow = f .areasBelow;
-      places = f .places;
+    of-parts (record {
+      sizes = parts-of f .sizes;
+      dirty = record {
+        distinctPages = f .distinctPages;
+        pagesBelow = f .pagesBelow;
+        framesBelow = f .framesBelow;
+        firstsBelow = f .firstsBelow;
+        cleaning = h;
+      };
+      waiting = parts-of f .waiting;
+      groups = parts-of f .groups;
+      transaction = parts-of f .transaction;
       ticket = f .ticket;
-      queued = f .queued;
       staged = f .staged;
-      groups = f .groups;
-      stored = f .stored;
-      reserved = f .reserved;
-      described = f .described;
       slotSum = f .slotSum;
       frameSum = f .frameSum;
       sequenceSum = f .sequenceSum;
-    }
+    })
 
 -- ---- Read: where a page is held, and what shows of it
 abbrev pub bytesAt : Held → List ℕ → List ℕ → ℕ → List ℕ

@@ -24,7 +24,7 @@ use Rattle.promises.specs.Sums.{openOnes}
 use Rattle.promises.specs.Describe.{describeRefusal, describedState, Describes}
 use Rattle.promises.specs.Answers.{done}
 use Rattle.promises.proofs.Replies.{replied-accepted}
-use Rattle.promises.proofs.Soundness.{and-both, and2, Sound, sound-of, of-sound}
+use Rattle.promises.proofs.Soundness.{and-both, and2, Sound, sound-of, of-sound, parts-of, of-parts}
 use Rattle.promises.proofs.Changes.{describe-passed}
 use Rattle.area.proofs.Parts.{part-same, part-before, part-after, length-splice, either}
 
@@ -118,29 +118,25 @@ module _ (s : State) (f : Sound s) (u : Staged) (room : total (groupsOf s) + s .
 
   pub sound-added : Sound (describedState s u)
   sound-added =
-      record {
-        pages = f .pages;
-        slots = f .slots;
-        frames = f .frames;
-        distinctPages = f .distinctPages;
-        pagesBelow = f .pagesBelow;
-        framesBelow = f .framesBelow;
-        firstsBelow = f .firstsBelow;
-        cleaning = f .cleaning;
-        distinctAreas = rw areas-added (distinct-snoc (areasOf (stagedOf s)) (u .area) (f .distinctAreas) free);
-        areasBelow = rw areas-added (below-snoc (s .frames) (areasOf (stagedOf s)) (u .area) (f .areasBelow) below);
-        places = rw staged-added (legal-snoc (s .pages) (stagedOf s) u (f .places) legal);
+      of-parts (record {
+        sizes = parts-of f .sizes;
+        dirty = parts-of f .dirty;
+        waiting = record {
+          distinctAreas = rw areas-added (distinct-snoc (areasOf (stagedOf s)) (u .area) (f .distinctAreas) free);
+          areasBelow = rw areas-added (below-snoc (s .frames) (areasOf (stagedOf s)) (u .area) (f .areasBelow) below);
+          places = rw staged-added (legal-snoc (s .pages) (stagedOf s) u (f .places) legal);
+        };
+        groups = parts-of f .groups;
+        transaction = record {
+          reserved = f .reserved;
+          described = omega arith;
+        };
         ticket = f .ticket;
-        queued = f .queued;
         staged = omega (arith, length-set (s .staged) k u);
-        groups = f .groups;
-        stored = f .stored;
-        reserved = f .reserved;
-        described = omega arith;
         slotSum = f .slotSum;
         frameSum = f .frameSum;
         sequenceSum = f .sequenceSum;
-      }
+      })
 
   module _ (staging bytes : List ℕ) (long : length bytes ≡ u .length) (lent : length staging ≡ s .frames * 472) where
     abbrev after : List ℕ

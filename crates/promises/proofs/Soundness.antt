@@ -7,7 +7,11 @@ use native.Mathlib.Omega.{arith}
 use lib.ListN.{length, take, drop}
 use lib.Dec.{eqb, leb, ltb}
 use borrow.Author.Tests.{leb-true, ltb-true, eqb-true, le-leb, lt-ltb, eq-eqb}
+use mathlib.Core.List.{List}
 use Rattle.promises.specs.declared.State.{State}
+use Rattle.promises.specs.declared.Dirty.{Dirty}
+use Rattle.promises.specs.declared.Staged.{Staged}
+use Rattle.promises.specs.declared.Cleaning.{Cleaning}
 use Rattle.promises.specs.Contents.{groupsOf, total}
 use Rattle.promises.specs.States.{allZeroState}
 use Rattle.promises.specs.Sums.{firstGroups, reservedUpdates, owedBlocks, slotsTaken, framesTaken, sequencesTaken}
@@ -133,6 +137,94 @@ of-sound s f =
     let a9 = and2 (and2 (and2 a6 (f .places)) groups) reservation in
     let a11 = and2 (and2 a9 (f .stored)) (f .cleaning) in
     and2 (and2 (and2 a11 (le-leb _ _ (f .slotSum))) (le-leb _ _ (f .frameSum))) (le-leb _ _ (f .sequenceSum))
+
+-- ---- the facts in parts, each over the fields that it speaks of: a part whose fields a call leaves is handed on whole
+
+pub record SizesPart (P N F : ℕ) : Type 0 where
+  pub pages : (1 ≤ P) × (P ≤ 4096)
+  pub slots : (8 ≤ N) × (N ≤ 1024)
+  pub frames : (1 ≤ F) × (F ≤ 32)
+
+pub record DirtyPart (pages frames next : ℕ) (dirty : List Dirty) (at : Cleaning) : Type 0 where
+  pub distinctPages : distinct (dirtyNumbers dirty) ≡ true
+  pub pagesBelow : allBelow pages (dirtyNumbers dirty) ≡ true
+  pub framesBelow : length (firstGroups (drop frames dirty)) ≡ 0
+  pub firstsBelow : allBelow next (firstGroups dirty) ≡ true
+  pub cleaning : names at (dirtyNumbers dirty) ≡ true
+
+-- of the updates that wait
+pub record StagedPart (pages frames : ℕ) (updates : List Staged) : Type 0 where
+  pub distinctAreas : distinct (areasOf updates) ≡ true
+  pub areasBelow : allBelow frames (areasOf updates) ≡ true
+  pub places : allLegal pages updates ≡ true
+
+-- of the sizes of groups, how many are queued, and how many updates of the oldest are stored
+pub record GroupsPart (sizes : List ℕ) (count first : ℕ) : Type 0 where
+  pub groups : sizesLegal (take count sizes) ≡ true
+  pub queued : count ≤ length sizes
+  pub stored : ofOldest first (take count sizes) ≡ true
+
+-- of the updates that the open transaction reserved and has described
+pub record TransactionPart (most so-far : ℕ) : Type 0 where
+  pub reserved : most ≤ 16
+  pub described : so-far ≤ most
+
+pub record Parts (s : State) : Type 0 where
+  pub sizes : SizesPart (s .pages) (s .slots) (s .frames)
+  pub dirty : DirtyPart (s .pages) (s .frames) (s .next) (s .dirty) (s .cleaning)
+  pub waiting : StagedPart (s .pages) (s .frames) (stagedOf s)
+  pub groups : GroupsPart (s .groups) (s .queued) (s .stored)
+  pub transaction : TransactionPart (s .reserved) (s .described)
+  pub ticket : s .ticket < s .next - s .stored
+  pub staged : total (groupsOf s) + s .described ≤ length (s .staged)
+  pub slotSum : slotsTaken s + reservedUpdates s + owedBlocks s ≤ s .slots
+  pub frameSum : framesTaken s + reservedUpdates s ≤ s .frames
+  pub sequenceSum : sequencesTaken s ≤ 2 ^ 48
+
+pub parts-of : {s : State} → Sound s → Parts s
+parts-of f = record {
+  sizes = record { pages = f .pages; slots = f .slots; frames = f .frames };
+  dirty = record {
+    distinctPages = f .distinctPages;
+    pagesBelow = f .pagesBelow;
+    framesBelow = f .framesBelow;
+    firstsBelow = f .firstsBelow;
+    cleaning = f .cleaning;
+  };
+  waiting = record { distinctAreas = f .distinctAreas; areasBelow = f .areasBelow; places = f .places };
+  groups = record { groups = f .groups; queued = f .queued; stored = f .stored };
+  transaction = record { reserved = f .reserved; described = f .described };
+  ticket = f .ticket;
+  staged = f .staged;
+  slotSum = f .slotSum;
+  frameSum = f .frameSum;
+  sequenceSum = f .sequenceSum;
+}
+
+pub of-parts : {s : State} → Parts s → Sound s
+of-parts p = record {
+  pages = p .sizes .pages;
+  slots = p .sizes .slots;
+  frames = p .sizes .frames;
+  distinctPages = p .dirty .distinctPages;
+  pagesBelow = p .dirty .pagesBelow;
+  framesBelow = p .dirty .framesBelow;
+  firstsBelow = p .dirty .firstsBelow;
+  ticket = p .ticket;
+  distinctAreas = p .waiting .distinctAreas;
+  areasBelow = p .waiting .areasBelow;
+  places = p .waiting .places;
+  groups = p .groups .groups;
+  queued = p .groups .queued;
+  staged = p .staged;
+  reserved = p .transaction .reserved;
+  described = p .transaction .described;
+  stored = p .groups .stored;
+  cleaning = p .dirty .cleaning;
+  slotSum = p .slotSum;
+  frameSum = p .frameSum;
+  sequenceSum = p .sequenceSum;
+}
 
 -- the all-zero state is not sound
 pub all-zero-unsound : sound allZeroState ≡ false
