@@ -13,7 +13,7 @@ use Rattle.promises.specs.declared.EndOutcome.{EndOutcome}
 use Rattle.promises.specs.declared.LogOutcome.{LogOutcome}
 use Rattle.promises.specs.declared.OpenOutcome.{OpenOutcome}
 use Rattle.promises.specs.Updates.{Update}
-use Rattle.promises.specs.Events.{World, withState, Call, opening, begin, describe, ending, logStep, cleanStep, reading, settling}
+use Rattle.promises.specs.Events.{World, withState, withAreas, Call, opening, begin, describe, ending, logStep, cleanStep, reading, settling}
 use Rattle.promises.specs.Answers.{Reply, answered, endAnswered, logAnswered, openAnswered, standingAnswered, readAnswered}
 use Rattle.store.proofs.format.Reads as format-entry
 use Rattle.store.proofs.open.Reads as open-entry
@@ -47,7 +47,7 @@ pub record Opened (world : World) (frames staging : List ℕ) (reply : Reply) (w
   pub stagingIs : now lentStaging ≡ staging
   pub learnt : open-entry.Learnt κs (log, (home, (lentFrames, (lentStaging, tt)))) result (log, (home, (leftFrames, (lentStaging, tt))))
   pub replyIs : reply ≡ openAnswered (result .answer)
-  pub after : world′ ≡ record { state = result .state; log = world .log; home = world .home; frames = now leftFrames; staging = staging }
+  pub after : world′ ≡ withState (withAreas world (world .log) (world .home) (now leftFrames) staging) (result .state)
 
 pub record Begun (world : World) (u : ℕ) (reply : Reply) (world′ : World) : Type 0 where
   pub κs : Lfts 0
@@ -67,7 +67,7 @@ pub record Described (world : World) (update : Update) (reply : Reply) (world′
   pub learnt : describe-entry.Learnt κs (world .state, (staging, (update .page, (update .offset, (bytes, tt))))) result
       (world .state, (staging′, (update .page, (update .offset, (bytes, tt)))))
   pub replyIs : reply ≡ answered (result .answer)
-  pub after : world′ ≡ record { state = result .state; log = world .log; home = world .home; frames = world .frames; staging = now staging′ }
+  pub after : world′ ≡ withState (withAreas world (world .log) (world .home) (world .frames) (now staging′)) (result .state)
 
 pub record Ended (world : World) (reply : Reply) (world′ : World) : Type 0 where
   pub κs : Lfts 0
@@ -91,7 +91,7 @@ pub record Logged (world : World) (reply : Reply) (world′ : World) : Type 0 wh
   pub stagingIs : now staging ≡ world .staging
   pub learnt : log-step-entry.Learnt κs (world .state, (log, (home, (frames, (staging, tt))))) result (world .state, (log′, (home, (frames′, (staging, tt)))))
   pub replyIs : reply ≡ logAnswered (result .answer)
-  pub after : world′ ≡ record { state = result .state; log = now log′; home = world .home; frames = now frames′; staging = world .staging }
+  pub after : world′ ≡ withState (withAreas world (now log′) (world .home) (now frames′) (world .staging)) (result .state)
 
 pub record Cleaned (world : World) (reply : Reply) (world′ : World) : Type 0 where
   pub κs : Lfts 3
@@ -106,7 +106,7 @@ pub record Cleaned (world : World) (reply : Reply) (world′ : World) : Type 0 w
   pub framesAre : now frames ≡ world .frames
   pub learnt : clean-step-entry.Learnt κs (world .state, (log, (home, (frames, tt)))) result (world .state, (log′, (home′, (frames, tt))))
   pub replyIs : reply ≡ answered (result .answer)
-  pub after : world′ ≡ record { state = result .state; log = now log′; home = now home′; frames = world .frames; staging = world .staging }
+  pub after : world′ ≡ withState (withAreas world (now log′) (now home′) (world .frames) (world .staging)) (result .state)
 
 pub record Shown (world : World) (page : ℕ) (reply : Reply) (world′ : World) : Type 0 where
   pub κs : Lfts 2

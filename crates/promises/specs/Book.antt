@@ -20,24 +20,28 @@ pub record Book : Type 0 where
 abbrev pub blank : List ℕ → Book
 blank home = record { pages = pageAt home; m = 0; list = []; queue = []; count = 0 }
 
+-- a book with this list, this queue and this count; pages and m stay
+abbrev pub withWaiting : Book → List Update → List (List Update) → ℕ → Book
+withWaiting book list queue count = record { pages = book .pages; m = book .m; list = list; queue = queue; count = count }
+
 -- Begin: a new empty list
 abbrev pub begun : Book → Book
-begun book = record { pages = book .pages; m = book .m; list = []; queue = book .queue; count = book .count }
+begun book = withWaiting book [] (book .queue) (book .count)
 
 -- Describe: its update goes to the end
 abbrev pub described : Update → Book → Book
-described update book = record { pages = book .pages; m = book .m; list = book .list ++ (update ∷ []); queue = book .queue; count = book .count }
+described update book = withWaiting book (book .list ++ (update ∷ [])) (book .queue) (book .count)
 
 -- End: the list joins the queue; its ticket is m plus the queue's new length
 abbrev pub ended : Book → Book
-ended book = record { pages = book .pages; m = book .m; list = []; queue = book .queue ++ (book .list ∷ []); count = book .count }
+ended book = withWaiting book [] (book .queue ++ (book .list ∷ [])) (book .count)
 
 abbrev pub ticketGiven : Book → ℕ
 ticketGiven book = book .m + length (ended book .queue)
 
 -- Log step: the count grows by 1
 abbrev pub counted : Book → Book
-counted book = record { pages = book .pages; m = book .m; list = book .list; queue = book .queue; count = book .count + 1 }
+counted book = withWaiting book (book .list) (book .queue) (book .count + 1)
 
 -- the oldest list's updates change the pages in order: the transaction is COMMITTED and leaves, m grows by 1, the count is 0
 abbrev pub committed : Book → List Update → List (List Update) → Book
@@ -59,4 +63,4 @@ stepped book = steppedOver book (book .queue)
 
 -- Open, even refused, and a cut: list, queue and count go
 abbrev pub gone : Book → Book
-gone book = record { pages = book .pages; m = book .m; list = []; queue = []; count = 0 }
+gone book = withWaiting book [] [] 0
