@@ -2,25 +2,15 @@
 -- and what a loan of a part leaves.
 -- Assumes nothing.
 use mathlib.Core.Path.{_≡_, refl, sym, ap, _∙_}
-use mathlib.Core.List.{List, [], _∷_, _++_, append-assoc, append-nil}
-use mathlib.Core.Bool.{Bool, true, false}
+use mathlib.Core.List.{List, [], _∷_, _++_, append-assoc}
 use Prim.Native.Nat.{ℕ, zero, suc, _+_, _-_, _*_, _≤_, _<_}
 use native.Mathlib.Omega.{arith}
 use native.Mathlib.Nat.{add-sub-cancel-left, mul-le-mul-right}
-use lib.Dec.{ltb}
-use lib.ListN.{length, take, drop, getD, replicate, length-append, length-take, length-drop, take-append-drop, drop-of-length-le}
+use lib.ListN.{length, take, drop, getD, replicate, length-append, length-take, length-drop, take-append-drop}
 use lib.Seq.{take-at, drop-at, take-all, take-take, length-take-le, drop-drop, drop-append-le, take-append-le, take-add, getD-take, getD-drop}
-use borrow.Author.Tests.{ltb-true, ltb-false}
 use borrow.Rule.Slice.PartMut.{putMid}
+use Rattle.area.proofs.Laws.{either}
 use Rattle.area.specs.Part.{part, splice}
-
--- which of two numbers is the lower
-pub either : {C : Type 0} (a b : ℕ) → (a < b → C) → (b ≤ a → C) → C
-either {C} a b below above = by-test (ltb a b) refl
-  where
-    by-test : (t : Bool) → ltb a b ≡ t → C
-    by-test true e = below (ltb-true a b e)
-    by-test false e = above (ltb-false a b e)
 
 -- one more of the same element
 pub replicate-snoc : (n a : ℕ) → replicate n a ++ (a ∷ []) ≡ replicate (suc n) a

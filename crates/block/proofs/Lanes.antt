@@ -7,7 +7,7 @@ use native.Mathlib.Omega.{arith}
 use native.Mathlib.Nat.{mul-add, suc-mul, add-mod, mod-mod, add-sub-cancel-left}
 use lib.ListN.{length, getD, set, take, drop, replicate, length-take, length-drop, getD-replicate}
 use lib.Seq.{getD-set-same, getD-set-other, getD-take, getD-drop, take-add}
-use Rattle.area.proofs.Parts.{either}
+use Rattle.area.proofs.Laws.{either}
 use Rattle.block.specs.Check.{plain, weighted}
 use Rattle.block.specs.Lanes.{sumBelow, lowerOf, lowerSum, laneSum, lowerTotal, laneTotal, RowAdded, plainOf, weightedOf, uppersOf, Summed}
 use Rattle.block.specs.declared.check.Lanes.{Lanes}

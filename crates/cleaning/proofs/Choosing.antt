@@ -10,8 +10,7 @@ use lib.Dec.{eqb, ltb}
 use lib.ListN.{length, drop, getD, set}
 use lib.Seq.{getD-set-same, getD-set-other, set-getD, lt-length-set}
 use borrow.Author.Tests.{eqb-true, eqb-false, eq-eqb, ne-eqb, ltb-true, ltb-false, not-true}
-use Rattle.area.proofs.Parts.{either}
-use Rattle.block.proofs.Tests.{never-both}
+use Rattle.area.proofs.Laws.{and-both, by-eq, either, never-both}
 use Rattle.promises.specs.declared.State.{State}
 use Rattle.promises.specs.declared.Dirty.{Dirty}
 use Rattle.promises.specs.Areas.{pageAt}
@@ -20,9 +19,8 @@ use Rattle.promises.specs.Contents.{unless, dirtyFrom}
 use Rattle.promises.specs.Sums.{firstGroups, smallest, dirtyCount}
 use Rattle.promises.specs.Sound.{member, allBelow, dirtyNumbers}
 use Rattle.promises.specs.CleanStep.{NoLater}
-use Rattle.promises.proofs.Soundness.{and-both, Sound}
+use Rattle.promises.proofs.Soundness.{Sound}
 use Rattle.promises.proofs.Table.{lookUp-set}
-use Rattle.promises.proofs.History.Sees.{by-eq}
 use Rattle.soundness.proofs.Scans.{firsts-more, firsts-same, firsts-end}
 use Rattle.promises.specs.States.{free, isOf}
 use Rattle.table.proofs.Entries.{used-below, own-apart, first-below}

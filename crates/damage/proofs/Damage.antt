@@ -8,8 +8,9 @@ use Prim.Native.Nat.{ℕ, _+_, _-_, _≤_, _<_}
 use native.Mathlib.Omega.{arith}
 use lib.ListN.{length, getD, drop, set}
 use lib.Seq.{take-set-le, take-set-lt, drop-set-lt, drop-set-add, getD-set-same, getD-take}
+use Rattle.area.proofs.Laws.{either}
 use Rattle.area.specs.Part.{part}
-use Rattle.area.proofs.Parts.{either, length-part, part-append, part-all}
+use Rattle.area.proofs.Parts.{length-part, part-append, part-all}
 use Rattle.block.specs.Sizes.{blockSize, newBytesMost, bodySize}
 use Rattle.block.specs.Check.{checkA, checkB, modulus}
 use Rattle.block.specs.Kind.{lengthOf}

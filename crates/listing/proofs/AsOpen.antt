@@ -7,10 +7,10 @@ use Prim.Native.Nat.{ℕ, _-_, _*_, _/_, _≤_}
 use native.Mathlib.Omega.{arith}
 use lib.ListN.{length}
 use borrow.Author.Tests.{eq-eqb, le-leb}
+use Rattle.area.proofs.Laws.{and2}
 use Rattle.promises.specs.Areas.{slotsIn, pagesIn, homeLength, framesLength, stagingLength, logFits, homeFits, framesFit}
 use Rattle.promises.specs.Walk.{Finding, stops, stands, finding}
 use Rattle.promises.specs.Open.{openFinding}
-use Rattle.promises.proofs.Soundness.{and2}
 use Rattle.lines.specs.Text.{firstLine, refusedLine}
 use Rattle.outline.specs.Outline as outline
 use Rattle.outline.specs.Outline.{Sketch, sketchOf}

@@ -8,6 +8,7 @@ use native.Mathlib.Omega.{arith}
 use native.Mathlib.Nat.{mod-lt}
 use lib.ListN.{length, getD}
 use borrow.Author.Tests.{eq-eqb, ne-eqb, le-leb}
+use Rattle.area.proofs.Laws.{and2}
 use Rattle.block.specs.Kind.{fieldsOf}
 use Rattle.block.specs.Legal.{legal, slotOf}
 use Rattle.block.specs.declared.Block.{Block}
@@ -19,7 +20,6 @@ use Rattle.promises.specs.Blocks.{slotAt, slotsOf}
 use Rattle.promises.specs.Newest.{sequenceIn, blocks, allUnused, isDamaged}
 use Rattle.promises.specs.Walk.{stops, stands, finding}
 use Rattle.promises.proofs.Gathered.{gathered-fresh}
-use Rattle.promises.proofs.Soundness.{and2}
 use Rattle.recovery.specs.declared.Scan.{Scan}
 use Rattle.recovery.specs.Log.{headerOf, blocksFrom}
 use Rattle.recovery.specs.Slots.{Scanned, standing, Lowest}

@@ -7,7 +7,8 @@ use Prim.Native.Nat.{ℕ, zero, suc, _+_, _-_, _*_, _/_, _≤_, _<_}
 use native.Mathlib.Omega.{arith}
 use lib.ListN.{length, getD}
 use borrow.Author.Tests.{eq-eqb, ne-eqb}
-use Rattle.area.proofs.Parts.{either, length-part}
+use Rattle.area.proofs.Laws.{either}
+use Rattle.area.proofs.Parts.{length-part}
 use Rattle.block.specs.Kind.{lengthOf, updateBlock}
 use Rattle.block.specs.Legal.{legal}
 use Rattle.block.specs.declared.Kind as format

@@ -8,8 +8,8 @@ use native.Mathlib.Omega.{arith}
 use lib.Dec.{ltb}
 use lib.ListN.{length, take, drop, getD, length-take, length-map, List·getD-map}
 use borrow.Author.Tests.{ltb-true, ltb-false}
+use Rattle.area.proofs.Laws.{and-both, never-both}
 use Rattle.area.proofs.Parts.{from-to}
-use Rattle.block.proofs.Tests.{never-both}
 use Rattle.promises.specs.declared.State.{State}
 use Rattle.promises.specs.declared.Staged.{Staged}
 use Rattle.promises.specs.declared.Dirty.{Dirty}
@@ -19,7 +19,6 @@ use Rattle.promises.specs.DirtyPages.{DirtyPage, applyAll}
 use Rattle.promises.specs.Updates.{Update}
 use Rattle.promises.specs.Contents.{waiting, dirtyOf}
 use Rattle.promises.specs.Sums.{firstGroups, groupStart}
-use Rattle.promises.proofs.Soundness.{and-both}
 use Rattle.promises.proofs.History.Whole.{length-all}
 use Rattle.table.specs.declared.Table.{Table}
 use Rattle.table.specs.Table.{Holds, Applies, AppliesAll}

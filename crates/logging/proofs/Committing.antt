@@ -9,8 +9,9 @@ use lib.Dec.{eqb, leb}
 use lib.ListN.{length, take, length-map}
 use lib.Seq.{length-take-le}
 use borrow.Author.Tests.{leb-true, eqb-false, le-leb}
+use Rattle.area.proofs.Laws.{and-both, and2, by-cases, map-take, never-both}
 use Rattle.block.specs.Legal.{legalPlace}
-use Rattle.block.proofs.Tests.{tests, by-cases, never-both}
+use Rattle.block.proofs.Tests.{tests}
 use Rattle.promises.specs.declared.State.{State}
 use Rattle.promises.specs.declared.Dirty.{Dirty}
 use Rattle.promises.specs.declared.Staged.{Staged}
@@ -21,7 +22,7 @@ use Rattle.promises.specs.DirtyPages.{DirtyPage, Found, absent, at, lookUp, app
 use Rattle.promises.specs.Contents.{waiting, total, groupsOf, dirtyOf}
 use Rattle.promises.specs.Sums.{firstGroups, groupStart, halfStarts, smallest, blockCount}
 use Rattle.promises.specs.Sound.{member, allBelow, allLegal, sizesLegal, ofOldest, names, dirtyNumbers, stagedOf}
-use Rattle.promises.proofs.Soundness.{and-both, and2, Sound, parts-of, of-parts}
+use Rattle.promises.proofs.Soundness.{Sound, parts-of, of-parts}
 use Rattle.promises.proofs.Changes.{below-more, held-is, smallest-le}
 use Rattle.promises.proofs.SoundFacts.{length-dirty, keepFrom-dirty}
 use Rattle.promises.proofs.History.Sees.{lookUp-other}
@@ -31,7 +32,7 @@ use Rattle.table.proofs.Holding.{held-count, held-keep, Each, Below, held-below
 use Rattle.stepping.specs.Tables.{tableWith}
 use Rattle.stepping.proofs.Held.{look-unnamed, held-named, Changed, each-all, each-below, each-oldest, oldest-each}
 use Rattle.queue.specs.Queue.{changes, cleaningLeft, commitDone}
-use Rattle.queue.proofs.Leaving.{map-take, length-shifted, groups-left, staged-left, distinct-behind, below-behind, legal-behind, unchanged}
+use Rattle.queue.proofs.Leaving.{length-shifted, groups-left, staged-left, distinct-behind, below-behind, legal-behind, unchanged}
 use Rattle.logging.specs.Logging.{sizeOf, oldestGroup}
 
 -- a page that no update changes is found as before
@@ -86,7 +87,7 @@ module _ (s : State) (f : Sound s) (some : 1 ≤ s .queued) (whole : sizeOf s �
   size-few = omega (arith, ap total groups-are, f .staged)
 
   group-is : oldestGroup s staging ≡ map (waiting staging) (take (sizeOf s) (s .staged))
-  group-is = sym (map-take (waiting staging) (sizeOf s) (s .staged))
+  group-is = map-take (waiting staging) (sizeOf s) (s .staged)
 
   group-long : length (oldestGroup s staging) ≡ sizeOf s
   group-long = length-take-le (sizeOf s) (map (waiting staging) (s .staged)) (omega (arith, size-few, length-map (s .staged) (waiting staging)))

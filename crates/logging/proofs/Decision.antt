@@ -9,6 +9,7 @@ use lib.Dec.{eqb, leb, ltb}
 use lib.ListN.{length, getD}
 use lib.Seq.{getD-take, length-take-le}
 use borrow.Author.Tests.{eqb-false, leb-true, ltb-true}
+use Rattle.area.proofs.Laws.{and-both}
 use Rattle.block.specs.Legal.{legalPlace}
 use Rattle.block.proofs.Tests.{tests}
 use Rattle.promises.specs.declared.State.{State}
@@ -18,7 +19,7 @@ use Rattle.promises.specs.Contents.{groupsOf, total}
 use Rattle.promises.specs.Sums.{blockCount, firstGroups, groupStart, smallest}
 use Rattle.promises.specs.Sound.{sound, stagedOf, areasOf, allBelow, allLegal, sizesLegal, ofOldest}
 use Rattle.promises.specs.LogStep.{areasFit, logRefusal}
-use Rattle.promises.proofs.Soundness.{and-both, Sound, sound-of}
+use Rattle.promises.proofs.Soundness.{Sound, sound-of}
 use Rattle.promises.proofs.Changes.{pick-zero, pick-other, held-is, smallest-le}
 use Rattle.soundness.specs.declared.sums.Sums.{Sums}
 use Rattle.soundness.specs.Summed.{Summed}

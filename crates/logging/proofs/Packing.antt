@@ -10,7 +10,7 @@ use lib.Dec.{eqb}
 use lib.ListN.{length, take, drop, getD, set, replicate, length-append, take-append-drop, List·getD-map}
 use lib.Seq.{getD-take, take-suc, take-suc-set, take-length, take-at, length-take-le}
 use borrow.Author.Tests.{eqb-true, eqb-false, ne-eqb}
-use Rattle.block.proofs.Tests.{by-cases}
+use Rattle.area.proofs.Laws.{by-cases}
 use Rattle.promises.specs.declared.Dirty.{Dirty}
 use Rattle.promises.specs.Areas.{pageAt}
 use Rattle.promises.specs.DirtyPages.{DirtyPage, lookUp}

@@ -8,7 +8,7 @@ use native.Mathlib.Omega.{arith}
 use native.Mathlib.Decide.{ℕ-discrete}
 use lib.Dec.{leb}
 use lib.ListN.{length, replicate}
-use Rattle.block.proofs.Tests.{by-cases}
+use Rattle.area.proofs.Laws.{by-cases}
 use Rattle.block.specs.Sizes.{sequenceEnd}
 use Rattle.promises.specs.Areas.{pageAt, slotsIn}
 use Rattle.promises.specs.DirtyPages.{keepFromOf}

@@ -9,7 +9,7 @@ use native.Mathlib.Nat.{mod-lt}
 use native.Mathlib.Decide.{ℕ-discrete}
 use lib.ListN.{length, getD}
 use borrow.Author.Tests.{eq-eqb, ne-eqb}
-use Rattle.area.proofs.Parts.{either}
+use Rattle.area.proofs.Laws.{either}
 use Rattle.block.specs.Legal.{legal, slotOf}
 use Rattle.block.specs.Slot.{blockAt, judged}
 use Rattle.block.specs.declared.Block.{Block}

@@ -7,7 +7,7 @@ use Prim.Native.Nat.{ℕ, _+_, _-_, _*_, _^_, _≤_, _<_}
 use native.Mathlib.Omega.{arith}
 use native.Mathlib.Nat.{mod-lt}
 use lib.ListN.{length, getD}
-use Rattle.area.proofs.Parts.{either}
+use Rattle.area.proofs.Laws.{either}
 use Rattle.block.specs.Legal.{slotOf}
 use Rattle.block.specs.declared.Block.{Block}
 use Rattle.block.proofs.Facts.{facts, Facts}

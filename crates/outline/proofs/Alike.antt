@@ -7,6 +7,7 @@ use Prim.Native.Nat.{ℕ, suc, _+_, _-_, min}
 use native.Mathlib.Omega.{arith}
 use lib.Dec.{eqb, leb}
 use lib.ListN.{length}
+use Rattle.area.proofs.Laws.{by-cases}
 use Rattle.block.specs.declared.Block.{Block}
 use Rattle.block.specs.declared.Kind as format
 use Rattle.block.specs.declared.Kind.the-variants as formats
@@ -30,7 +31,6 @@ use Rattle.promises.specs.Walk.{
   startWith,
   believed,
 }
-use Rattle.block.proofs.Tests.{by-cases}
 use Rattle.recovery.specs.Order.{inOrderAfter}
 use Rattle.recovery.proofs.Ordering.{order-is, change-any}
 use Rattle.outline.specs.declared.Mark.{Mark}

@@ -13,28 +13,7 @@ use Rattle.promises.specs.Book.{gone, Book, blank, counted, committed, s
 use Rattle.promises.specs.Events.{Sizes, World, Call, opening, begin, describe, ending, logStep, cleanStep, reading, settling}
 use Rattle.promises.specs.Answers.{accepts}
 use Rattle.promises.proofs.History.Sees.{redo-append}
-use Rattle.promises.specs.Claim.{
-  bookedBy,
-  isOpen,
-  leavingBy,
-  Steps,
-  entered,
-  cutAt,
-  both,
-  Run,
-  formatted,
-  called,
-  unfit,
-  cut,
-  cutUnfit,
-  leaving,
-  commitsOf,
-  committedBy,
-  foundBy,
-  together,
-  Accounts,
-  BookClaim,
-}
+use Rattle.promises.specs.Claim.{bookedBy, isOpen, leavingBy, Steps, entered, cutAt, both, Run, formatted, called, unfit, cut, cutUnfit, leaving, commitsOf, committedBy, foundBy, together, BookClaim}
 
 -- ---- updates one after the other
 ofPage-append : (p : ℕ) (us vs : List Update) → ofPage p (us ++ vs) ≡ ofPage p us ++ ofPage p vs

@@ -2,14 +2,15 @@
 -- Assumes nothing.
 use denote.Ref.{now}
 use mathlib.Core.Path.{_≡_, refl, sym, ap, _∙_, subst}
-use mathlib.Core.Bool.{true, cond, _&&_}
+use mathlib.Core.Bool.{true, _&&_}
 use Prim.Native.Nat.{ℕ, _+_, _*_, _-_, _≤_, _<_}
 use mathlib.Core.List.{List, [], _∷_}
 use native.Mathlib.Omega.{arith}
 use lib.ListN.{length, getD}
 use lib.Dec.{eqb, leb}
 use borrow.Author.Tests.{eqb-false}
-use Rattle.area.proofs.Parts.{either, length-splice}
+use Rattle.area.proofs.Laws.{by-eq, either}
+use Rattle.area.proofs.Parts.{length-splice}
 use Rattle.block.specs.Legal.{legalPlace}
 use Rattle.block.proofs.Tests.{tests}
 use Rattle.promises.specs.declared.State.{State}
@@ -42,7 +43,6 @@ use Rattle.promises.proofs.SoundFacts.{distinct-dirty, length-queue}
 use Rattle.promises.proofs.Changes.{pick-zero, pick-other, describe-passed}
 use Rattle.promises.proofs.History.KeepFrom.{keep-applied}
 use Rattle.promises.proofs.Demand3.{not-sound}
-use Rattle.promises.proofs.History.Sees.{by-eq}
 use Rattle.promises.proofs.History.WalkStart.{distinct-without}
 use Rattle.promises.proofs.Replies.{refused-by, accepted-by, read-refused-reply, read-accepted-reply}
 use Rattle.promises.proofs.Promised.{log-update, log-commit}

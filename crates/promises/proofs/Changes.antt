@@ -1,41 +1,39 @@
 -- States that the calls can build, and that they meet the promises: for those who prove the code.
 -- Assumes nothing.
-use mathlib.Core.Path.{_≡_, refl, sym, ap, _∙_, subst}
-use mathlib.Core.Bool.{Bool, true, false, cond, not, _&&_, _||_}
+use mathlib.Core.Path.{_≡_, refl, sym, ap, _∙_}
+use mathlib.Core.Bool.{Bool, true, false, cond, not, _&&_}
 use Prim.Native.Nat.{ℕ, zero, suc, _+_, _*_, _-_, _^_, _≤_, _<_, min}
 use mathlib.Core.List.{List, [], _∷_, _++_, map}
 use native.Mathlib.Omega.{arith}
 use native.Mathlib.Numerals.{add-one}
-use lib.ListN.{length, take, drop, set, length-set, length-take, length-append}
+use lib.ListN.{length, take, drop, length-set, length-take}
 use lib.Seq.{take-suc-set, drop-drop, length-take-le}
 use lib.Dec.{eqb, leb, ltb}
 use borrow.Author.Tests.{leb-true, ltb-true, eqb-true, eqb-false, le-leb, lt-ltb, eq-eqb, ne-eqb}
+use Rattle.area.proofs.Laws.{and-both, and2}
 use Rattle.promises.specs.declared.State.{State}
 use Rattle.promises.specs.declared.Dirty.{Dirty}
-use Rattle.promises.specs.declared.Staged.{Staged}
 use Rattle.promises.specs.declared.Cleaning.{Cleaning}
-use Rattle.promises.specs.declared.Outcome.{Outcome}
 use Rattle.promises.specs.declared.Answer.the-variants.{Done}
 use Rattle.promises.specs.declared.Ended.the-variants.{Ticket}
 use Rattle.promises.specs.declared.Logged.the-variants.{Stored}
 use Rattle.promises.specs.Updates.{Update}
 use Rattle.promises.specs.Areas.{pageAt}
-use Rattle.promises.specs.DirtyPages.{DirtyPage, Found, at, lookUp, shown}
-use Rattle.promises.specs.Contents.{unless, Contents, contentsOf, withQueue, withOpen, dirtyFrom, dirtyOf, groupsOf, grouped, queueOf, waiting, total}
-use Rattle.promises.specs.Sums.{blockCount, firstGroups, halfStarts, smallest, openOnes, waitingBlocks, slotsTaken, framesTaken, queuedUpdates}
-use Rattle.promises.specs.Sound.{dirtyNumbers, names, stagedOf, areasOf, allBelow, allLegal, distinct, sizesLegal, ofOldest, sound}
+use Rattle.promises.specs.DirtyPages.{at, lookUp, shown}
+use Rattle.promises.specs.Contents.{unless, contentsOf, withQueue, withOpen, dirtyFrom, dirtyOf, groupsOf, grouped, queueOf, waiting, total}
+use Rattle.promises.specs.Sums.{blockCount, firstGroups, halfStarts, smallest, openOnes, waitingBlocks, slotsTaken, framesTaken}
+use Rattle.promises.specs.Sound.{dirtyNumbers, names, stagedOf, allBelow, sizesLegal, ofOldest, sound}
 use Rattle.promises.specs.States.{setCleaning}
 use Rattle.promises.specs.Answers.{done, gives}
 use Rattle.promises.specs.Begin.{beginRefusal, beginInRange, beginHasRoom, begunState, Begins}
 use Rattle.promises.specs.Describe.{describeRefusal}
 use Rattle.block.specs.Legal.{legalPlace}
 use Rattle.promises.specs.End.{endRefusal, endedState, Ends}
-use Rattle.promises.specs.Leaves.{Leaves}
 use Rattle.promises.specs.Blocks.{stored}
 use Rattle.promises.specs.LogStep.{updateBlock, updateStoredState, UpdateStep}
 use Rattle.promises.specs.Read.{Held, atHome, inFrame, heldIn}
 use Rattle.promises.proofs.Replies.{replied-accepted}
-use Rattle.promises.proofs.Soundness.{and-both, and2, Sound, sound-of, of-sound, parts-of, of-parts}
+use Rattle.promises.proofs.Soundness.{Sound, sound-of, of-sound, parts-of, of-parts}
 
 -- ---- refusals taken apart
 pub pick-zero : (b : Bool) (x k : ℕ) → 0 < k → cond b x k ≡ 0 → (b ≡ true) × (x ≡ 0)

@@ -9,6 +9,7 @@ use lib.ListN.{length, take, drop, length-take, length-drop}
 use lib.Seq.{take-all}
 use lib.Dec.{eqb}
 use borrow.Author.Tests.{eqb-true, eqb-false}
+use Rattle.area.proofs.Laws.{by-eq}
 use Rattle.promises.specs.declared.State.{State}
 use Rattle.promises.specs.declared.Cleaning.{Cleaning}
 use Rattle.promises.specs.declared.Cleaning.the-variants.{Idle, First, Second, Third}
@@ -27,7 +28,7 @@ use Rattle.promises.proofs.History.Machine.{Live, idle, second, third, 
 use Rattle.promises.proofs.History.Machine as machine
 use Rattle.promises.proofs.History.Ledger as ledger
 use Rattle.promises.proofs.History.Stored.{store}
-use Rattle.promises.proofs.History.Sees.{by-eq, Sees}
+use Rattle.promises.proofs.History.Sees.{Sees}
 use Rattle.promises.proofs.History.Invariant.{Stage, frame-right, invariant-front, invariant-back, Disk, Alive, view, same-page, other-page}
 use Rattle.promises.proofs.History.Tally.{lookUp-page}
 use Rattle.promises.proofs.History.Whole.{Kept, Runs, kept-clean, kept-half}

@@ -8,16 +8,16 @@ use native.Mathlib.Omega.{arith}
 use lib.ListN.{length, drop}
 use lib.Dec.{eqb}
 use borrow.Author.Tests.{eqb-true, eqb-false, eq-eqb, ne-eqb}
+use Rattle.area.proofs.Laws.{and-both, by-eq, either}
 use Rattle.area.specs.Part.{splice}
 use Rattle.area.proofs.Parts.{length-splice, length-part}
 use Rattle.promises.specs.declared.State.{State}
-use Rattle.promises.specs.declared.Answer.{Answer}
 use Rattle.promises.specs.declared.Dirty.{Dirty}
 use Rattle.promises.specs.declared.Cleaning.{Cleaning}
 use Rattle.promises.specs.declared.Cleaning.the-variants.{Idle, First, Second, Third}
 use Rattle.promises.specs.Areas.{pageAt}
 use Rattle.promises.specs.DirtyPages.{DirtyPage, at, lookUp, without}
-use Rattle.promises.specs.Contents.{unless, dirtyFrom, dirtyOf, Contents, contentsOf, withCleaning, queueOf}
+use Rattle.promises.specs.Contents.{unless, dirtyFrom, dirtyOf, Contents, contentsOf, queueOf}
 use Rattle.promises.specs.Sums.{firstGroups, dirtyCount}
 use Rattle.promises.specs.Sound.{sound}
 use Rattle.promises.specs.LogStep.{areasFit}
@@ -28,12 +28,10 @@ use Rattle.promises.specs.Events as events
 use Rattle.promises.specs.Waiting.{Fitting}
 use Rattle.promises.proofs.Replies.{accepted-by}
 use Rattle.promises.proofs.Changes.{pick-zero, pick-other}
-use Rattle.promises.proofs.Soundness.{and-both, sound-of}
+use Rattle.promises.proofs.Soundness.{sound-of}
 use Rattle.promises.proofs.SoundFacts.{Facts, facts, length-dirty, length-queue}
 use Rattle.promises.proofs.SameDirty.{Same, same-count, count-without}
 use Rattle.promises.proofs.Slots.{length-stored}
-use Rattle.promises.proofs.History.Recovered.{by-lt}
-use Rattle.promises.proofs.History.Sees.{by-eq}
 use Rattle.promises.proofs.History.WalkStart.{Distinct, distinct-without}
 use Rattle.promises.proofs.History.Tally.{lookUp-page}
 
@@ -42,7 +40,7 @@ frame-long : (F : ℕ) (frames : List ℕ) (f p : ℕ) (ds : List Dirty) (e : Di
     → lookUp p (dirtyFrom frames f ds) ≡ at e → length (e .bytes) ≡ 1024
 unfolding lookUp dirtyFrom firstGroups
 frame-long F frames f p [] e l h q = let x : _≡_ {A = ℕ} 0 1 = cc in absurd (omega arith)
-frame-long F frames f p (d ∷ ds) e l h q = by-lt f F (inside (λ x y. frame-long F frames (suc f) p ds e l x y)) (outside (λ x y. frame-long F frames (suc f) p ds e l x y))
+frame-long F frames f p (d ∷ ds) e l h q = either f F (inside (λ x y. frame-long F frames (suc f) p ds e l x y)) (outside (λ x y. frame-long F frames (suc f) p ds e l x y))
   where
     Later : Type 0
     Later = length (firstGroups (drop (F - suc f) ds)) ≡ 0 → lookUp p (dirtyFrom frames (suc f) ds) ≡ at e → length (e .bytes) ≡ 1024

@@ -2,20 +2,19 @@
 -- Assumes nothing.
 use mathlib.Core.Path.{_≡_, refl, sym, ap, _∙_, subst}
 use mathlib.Core.Bool.{Bool, true, false, cond}
-use Prim.Native.Nat.{ℕ, _+_, _≤_, _<_}
+use Prim.Native.Nat.{ℕ, _+_, _≤_}
 use mathlib.Core.List.{List, [], _∷_, _++_, append-nil, append-assoc}
 use native.Mathlib.Omega.{arith}
 use native.Mathlib.Nat.{le-refl}
 use lib.ListN.{length}
-use lib.Dec.{leb, ltb}
+use lib.Dec.{ltb}
 use borrow.Author.Tests.{le-leb}
-use Rattle.promises.specs.Areas.{pageAt}
-use Rattle.promises.specs.Updates.{Update, redo, ofPage}
+use Rattle.promises.specs.Updates.{Update}
 use Rattle.promises.specs.Book.{gone, Book, blank, counted, committed, stepped, steppedOver}
-use Rattle.promises.specs.Events.{Sizes, World, Call, opening, begin, describe, ending, logStep, cleanStep, reading, settling, Lent, fallen}
-use Rattle.promises.specs.Answers.{Reply, shows, says, accepts}
-use Rattle.promises.specs.Claim.{bookedBy, isOpen, leavingBy, Steps, entered, cutAt, both, Run, formatted, called, unfit, cut, cutUnfit, leaving, commitsOf, committedBy, foundBy, together, InRange, Safe}
-use Rattle.promises.specs.Corollaries.{RepliesRight, EveryReply, endingBy, Begins, itself, byCall, byUnfit, byCut, byCutUnfit, StaysSettled, endsOf, endedBy, Among, none, left, taken, ShownTogether, AllOrNothing, NoTrace, OpensAlike}
+use Rattle.promises.specs.Events.{Sizes, World, Call, opening, begin, describe, ending, logStep, cleanStep, reading, settling}
+use Rattle.promises.specs.Answers.{shows, says, accepts}
+use Rattle.promises.specs.Claim.{bookedBy, isOpen, leavingBy, Steps, entered, cutAt, both, Run, formatted, called, unfit, cut, cutUnfit, leaving, commitsOf, committedBy}
+use Rattle.promises.specs.Corollaries.{RepliesRight, EveryReply, endingBy, Begins, itself, byCall, byUnfit, byCut, byCutUnfit, StaysSettled, endsOf, endedBy, Among, none, left, taken, AllOrNothing, NoTrace, OpensAlike}
 use Rattle.promises.proofs.Accounts.{book-accounts}
 use Rattle.promises.proofs.Refines.{Refines, demand-three-by}
 

@@ -9,7 +9,8 @@ use native.Mathlib.Omega.{arith}
 use lib.ListN.{length, replicate, length-replicate}
 use lib.Dec.{ltb}
 use borrow.Author.Tests.{le-leb, eq-eqb, lt-ltb, le-ltb}
-use Rattle.area.proofs.Parts.{either, length-part}
+use Rattle.area.proofs.Laws.{either}
+use Rattle.area.proofs.Parts.{length-part}
 use Rattle.promises.specs.declared.State.{State}
 use Rattle.promises.specs.declared.Answer.{Answer}
 use Rattle.promises.specs.Areas.{pageAt}
@@ -19,9 +20,9 @@ use Rattle.promises.specs.States.{allZeroState}
 use Rattle.promises.specs.Sound.{sound}
 use Rattle.promises.specs.Format.{formatRefusal, Formats}
 use Rattle.promises.specs.Open.{openFinding}
-use Rattle.promises.specs.Book.{Book, blank, begun, described, ended, stepped, gone}
+use Rattle.promises.specs.Book.{Book, blank, begun, gone}
 use Rattle.promises.specs.Events.{Sizes, World, withState, Call, opening, begin, describe, ending, logStep, cleanStep, reading, settling, Step, Lent, fallen}
-use Rattle.promises.specs.Answers.{Reply, refuses, settles, accepts, openAnswered, numberIn}
+use Rattle.promises.specs.Answers.{Reply, refuses, settles, accepts, numberIn}
 use Rattle.promises.specs.Claim.{bookedBy, isOpen, entered, cutAt, both, promised, Run, formatted, called, unfit, cut, cutUnfit, Right, Claim}
 use Rattle.promises.proofs.History.Machine.{lastKeep}
 use Rattle.promises.proofs.History.Views.{viewFrom}

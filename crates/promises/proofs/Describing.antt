@@ -1,48 +1,34 @@
 -- A described update in a free staging area: the promise of Describe is met.
 -- Assumes nothing.
-use mathlib.Core.Path.{_≡_, refl, sym, ap, _∙_, subst}
+use mathlib.Core.Path.{_≡_, refl, sym, ap, _∙_}
 use mathlib.Core.Bool.{Bool, true, false, cond, not, _&&_, _||_}
-use Prim.Native.Nat.{ℕ, zero, suc, _+_, _*_, _-_, _^_, _≤_, _<_}
+use Prim.Native.Nat.{ℕ, zero, suc, _+_, _*_, _-_, _≤_, _<_}
 use mathlib.Core.List.{List, [], _∷_, _++_, map}
 use native.Mathlib.Omega.{arith}
 use native.Mathlib.Nat.{zero-add, suc-add}
 use lib.ListN.{length, take, drop, set, length-set, length-take, length-map}
-use lib.Seq.{take-set-le, take-suc-set, take-add, drop-at, take-at, take-take, take-all, length-take-le}
+use lib.Seq.{take-set-le, take-suc-set, take-take}
 use lib.Dec.{eqb, leb, ltb}
-use borrow.Author.Tests.{leb-true, eqb-false, le-leb, lt-ltb, ne-eqb}
+use borrow.Author.Tests.{leb-true, eqb-false, lt-ltb, ne-eqb}
+use Rattle.area.proofs.Laws.{and-both, and2, either, drop-snoc, map-snoc, map-take}
 use Rattle.promises.specs.declared.State.{State}
 use Rattle.promises.specs.declared.Staged.{Staged}
-use Rattle.promises.specs.declared.Outcome.{Outcome}
 use Rattle.promises.specs.declared.Answer.the-variants.{Done}
 use Rattle.promises.specs.Areas.{withStaged}
 use Rattle.area.specs.Part.{part, splice}
 use Rattle.promises.specs.Updates.{Update}
-use Rattle.promises.specs.Contents.{Contents, contentsOf, groupsOf, grouped, queueOf, listOf, waiting, total}
+use Rattle.promises.specs.Contents.{groupsOf, grouped, queueOf, listOf, waiting, total}
 use Rattle.promises.specs.Sound.{member, distinct, allBelow, allLegal, stagedOf, areasOf, sound}
 use Rattle.block.specs.Legal.{legalPlace}
 use Rattle.promises.specs.Sums.{openOnes}
 use Rattle.promises.specs.Describe.{describeRefusal, describedState, Describes}
 use Rattle.promises.specs.Answers.{done}
 use Rattle.promises.proofs.Replies.{replied-accepted}
-use Rattle.promises.proofs.Soundness.{and-both, and2, Sound, sound-of, of-sound, parts-of, of-parts}
+use Rattle.promises.proofs.Soundness.{Sound, sound-of, of-sound, parts-of, of-parts}
 use Rattle.promises.proofs.Changes.{describe-passed}
-use Rattle.area.proofs.Parts.{part-same, part-before, part-after, length-splice, either}
+use Rattle.area.proofs.Parts.{part-same, part-before, part-after}
 
 -- ---- lists
-map-take : {A B : Type 0} (f : A → B) (n : ℕ) (l : List A) → take n (map f l) ≡ map f (take n l)
-map-take f zero l = refl
-map-take f (suc n) [] = refl
-map-take f (suc n) (x ∷ l) = ap (λ r. f x ∷ r) (map-take f n l)
-
-map-snoc : {A B : Type 0} (f : A → B) (l : List A) (x : A) → map f (l ++ (x ∷ [])) ≡ map f l ++ (f x ∷ [])
-map-snoc f [] x = refl
-map-snoc f (y ∷ l) x = ap (λ r. f y ∷ r) (map-snoc f l x)
-
-drop-snoc : {A : Type 0} (t : ℕ) (l : List A) (x : A) → t ≤ length l → drop t (l ++ (x ∷ [])) ≡ drop t l ++ (x ∷ [])
-drop-snoc zero l x h = refl
-drop-snoc (suc t) [] x h = absurd (omega arith)
-drop-snoc (suc t) (y ∷ l) x h = drop-snoc t l x (omega arith)
-
 -- n elements from t on, of the first t + n
 take-none : {A : Type 0} (n : ℕ) → take {A = A} n [] ≡ []
 take-none zero = refl

@@ -32,7 +32,7 @@ use Rattle.promises.specs.Read.{readRefusal}
 use Rattle.promises.specs.Settled.{settledRefusal}
 use Rattle.promises.specs.Book.{Book, blank}
 use Rattle.promises.specs.Events.{Sizes, World, withState, Call, opening, begin, describe, ending, logStep, cleanStep, reading, settling, Step, Lent, leftBy, fallen}
-use Rattle.promises.specs.Answers.{Reply, refuses, settles, accepts, openAnswered, numberIn}
+use Rattle.promises.specs.Answers.{Reply, refuses, settles, accepts, numberIn}
 use Rattle.promises.specs.Claim.{Steps, entered, cutAt, both, Run, formatted, called, unfit, cut, cutUnfit, foundBy}
 use Rattle.promises.specs.Alike.{Alike, asked, Event, calls, callsUnfit, cuts, cutsUnfit, eventsOf, repliesOf, SameDesk, CallsAlike, DesksAlike}
 use Rattle.promises.proofs.Ranges.{Ranged, ranged}

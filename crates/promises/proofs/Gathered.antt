@@ -6,7 +6,7 @@ use mathlib.Core.Bool.{Bool, true, false, cond}
 use mathlib.Core.List.{List, [], _∷_}
 use native.Mathlib.Omega.{arith}
 use borrow.Author.Tests.{eq-eqb, ne-eqb}
-use Rattle.block.proofs.Tests.{not-passed}
+use Rattle.area.proofs.Laws.{not-passed}
 use Rattle.promises.specs.Blocks.{clean, LogBlock, Slot, unused, damaged, valid}
 use Rattle.promises.specs.Newest.{newest, keepOf, missing, blocks, gather, allUnused, endDamaged, endTested, gathered}
 

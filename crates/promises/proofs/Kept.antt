@@ -7,6 +7,7 @@ use mathlib.Core.List.{List, [], _∷_, _++_}
 use native.Mathlib.Omega.{arith}
 use lib.ListN.{length, getD}
 use borrow.Author.Tests.{eq-eqb, ne-eqb}
+use Rattle.area.proofs.Laws.{by-eq}
 use Rattle.promises.specs.declared.State.{State}
 use Rattle.promises.specs.declared.Cleaning.{Cleaning}
 use Rattle.promises.specs.declared.Cleaning.the-variants.{Idle, First, Second, Third}
@@ -22,7 +23,7 @@ use Rattle.promises.proofs.History.Machine.{Live, idle, second, third}
 use Rattle.promises.proofs.History.Machine as machine
 use Rattle.promises.proofs.History.Ledger as ledger
 use Rattle.promises.proofs.History.Sizes as full
-use Rattle.promises.proofs.History.Sees.{by-eq, Sees}
+use Rattle.promises.proofs.History.Sees.{Sees}
 use Rattle.promises.proofs.History.WalkStart.{Distinct}
 use Rattle.promises.proofs.History.Tally.{Pages}
 use Rattle.promises.proofs.History.Accepted.{Ups}

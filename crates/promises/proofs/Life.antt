@@ -5,29 +5,27 @@ use denote.Ref.{RefT}
 use mathlib.Core.Path.{_≡_, refl, sym, ap, _∙_}
 use native.Mathlib.Omega.{arith}
 use lib.Dec.{eqb}
-use mathlib.Core.Bool.{Bool, true, false, cond, not, _&&_}
+use mathlib.Core.Bool.{Bool, true, false, cond}
 use mathlib.Core.Logic.{inr}
 use borrow.Author.Tests.{eqb-true}
-use Prim.Native.Nat.{ℕ, zero, suc, _+_, _*_, _-_, _%_}
-use mathlib.Core.List.{List, [], _∷_, _++_, map}
-use lib.ListN.{length, take, drop, getD, set, replicate}
+use Prim.Native.Nat.{ℕ, zero, suc, _-_}
+use mathlib.Core.List.{List, [], _∷_}
+use lib.ListN.{length, getD, set, replicate}
 use Rattle.area.specs.Part.{part, splice}
-use Rattle.block.specs.Number.{fromBytes}
 use Rattle.block.specs.Slot.{judged, allZero}
 use Rattle.promises.specs.declared.State.{State}
 use Rattle.promises.specs.declared.Dirty.{Dirty}
 use Rattle.promises.specs.declared.Cleaning.{Cleaning}
-use Rattle.promises.specs.declared.Cleaning.the-variants.{Idle, First, Second, Third}
-use Rattle.promises.specs.declared.Answer.the-variants.{Refused, Done}
-use Rattle.promises.specs.declared.Refusal.the-variants.{NothingToDo}
+use Rattle.promises.specs.declared.Cleaning.the-variants.{Idle, Second, Third}
+use Rattle.promises.specs.declared.Answer.the-variants.{Done}
 use Rattle.promises.specs.declared.Ended.the-variants.{Ticket}
 use Rattle.promises.specs.declared.Logged.the-variants.{Stored, Settled as LogSettled}
 use Rattle.promises.specs.declared.Opened.the-variants.{Settled as OpenSettled}
 use Rattle.promises.specs.declared.Standing.the-variants.{Yes}
 use Rattle.promises.specs.Areas.{pageAt}
-use Rattle.promises.specs.Updates.{Update, put, ofPage}
+use Rattle.promises.specs.Updates.{Update, put}
 use Rattle.promises.specs.Blocks.{clean, stored, slotAt, slotsFrom}
-use Rattle.promises.specs.DirtyPages.{DirtyPage, Found, absent, at, lookUp, shown, apply, applyAll, without, keepFromOf}
+use Rattle.promises.specs.DirtyPages.{DirtyPage, absent, at, lookUp, shown, apply, applyAll, without, keepFromOf}
 use Rattle.promises.specs.Newest.{newest, allUnused, gathered}
 use Rattle.promises.specs.Walk.{startWith, stands, walkFrom, finding}
 use Rattle.promises.specs.Contents.{dirtyFrom, dirtyOf, grouped}

@@ -8,6 +8,7 @@ use native.Mathlib.Omega.{arith}
 use lib.ListN.{length, take, getD, length-take, length-append}
 use lib.Dec.{eqb, ltb}
 use borrow.Author.Tests.{leb-true, eqb-false, lt-ltb, le-ltb}
+use Rattle.area.proofs.Laws.{by-eq, either}
 use Rattle.promises.specs.declared.State.{State}
 use Rattle.promises.specs.Areas.{pageAt}
 use Rattle.promises.specs.Updates.{Update, redo, ofPage}
@@ -25,17 +26,15 @@ use Rattle.promises.proofs.History.Machine as machine
 use Rattle.promises.proofs.History.Ledger as ledger
 use Rattle.promises.proofs.History.Sizes as full
 use Rattle.promises.proofs.History.Stored.{store}
-use Rattle.promises.proofs.History.Sees.{by-eq}
 use Rattle.promises.proofs.History.WalkStart.{lastKeep-snoc}
 use Rattle.promises.proofs.History.Invariant.{Keep, empty, from, Wells}
 use Rattle.promises.proofs.History.Invariant as inv
-use Rattle.promises.proofs.History.Recovered.{by-lt}
 use Rattle.promises.proofs.History.HalfEnd.{begins-le}
 use Rattle.promises.proofs.History.KeepFrom.{keep-applied}
 use Rattle.promises.proofs.History.Whole.{Kept, Runs, Room, kept-update, kept-commit, count-le}
 use Rattle.promises.specs.Book.{Book, counted, committed, stepped, steppedOver}
 use Rattle.promises.specs.Events.{Sizes, World, logStep, Logging}
-use Rattle.promises.specs.Answers.{Reply, done, settles, accepts, logAnswered}
+use Rattle.promises.specs.Answers.{Reply, done, settles, accepts}
 use Rattle.promises.specs.Claim.{entered}
 use Rattle.promises.specs.Stored.{newBlock, storedIn}
 use Rattle.promises.proofs.Ranges.{Ranged}
@@ -261,7 +260,7 @@ module _ (z : Sizes) (range : Ranged z) (w : World) (b : Book) {history : List L
       go : logRefusalOf s (w .log) (w .home) (w .frames) (w .staging) ≡ 0 → sound s ≡ true → (s .queued ≡ 0 → ⊥) → length (queueOf s (w .staging)) ≡ s .queued
           → (y : List (List Update)) → queueOf s (w .staging) ≡ y → X
       go e so nz ln [] q = absurd (nz (sym ln ∙ ap length q))
-      go e so nz ln (x ∷ y) q = by-lt (s .stored) (length x)
+      go e so nz ln (x ∷ y) q = either (s .stored) (length x)
           (λ h. f x y q so h (log-update s (w .log) (w .home) (w .frames) (w .staging) (st .result) (st .log′) (st .frames′) e x y q (st .promise) h))
           (λ h. c x y q so h (log-commit s (w .log) (w .home) (w .frames) (w .staging) (st .result) (st .log′) (st .frames′) e x y q (st .promise) h))
 

@@ -10,11 +10,11 @@ use lib.ListN.{length, take, drop, getD, length-drop, length-map}
 use lib.Seq.{length-take-le}
 use lib.Dec.{eqb, leb, ltb}
 use borrow.Author.Tests.{leb-true, eqb-true, eqb-false, eq-eqb, ne-eqb}
+use Rattle.area.proofs.Laws.{and-both, either}
 use Rattle.area.proofs.Parts.{length-part-most}
 use Rattle.block.specs.Legal.{legalPlace}
 use Rattle.promises.specs.declared.State.{State}
 use Rattle.promises.specs.declared.Staged.{Staged}
-use Rattle.promises.specs.declared.Logged.{Logged}
 use Rattle.promises.specs.Updates.{Update}
 use Rattle.promises.specs.Contents.{Contents, contentsOf, grouped, groupsOf, queueOf, total, waiting}
 use Rattle.promises.specs.Sums.{blockCount, waitingBlocks}
@@ -25,10 +25,9 @@ use Rattle.promises.specs.Answers.{Reply, accepts, logAnswered}
 use Rattle.promises.specs.Waiting.{Fitting}
 use Rattle.promises.proofs.Promised.{log-update, log-commit}
 use Rattle.promises.proofs.Changes.{pick-zero, pick-other}
-use Rattle.promises.proofs.Soundness.{and-both, Sound, sound-of}
+use Rattle.promises.proofs.Soundness.{Sound, sound-of}
 use Rattle.promises.proofs.SoundFacts.{and-left, and-right, length-queue}
 use Rattle.promises.proofs.Slots.{length-stored}
-use Rattle.promises.proofs.History.Recovered.{by-lt}
 
 -- ---- W by the queue
 abbrev blocksIn : List (List Update) → ℕ
@@ -186,7 +185,7 @@ module _ (w : World) (a : Reply) (w′ : World) (st : Logging w a w′) (p : Log
       go (g ∷ q) e =
           let half : s .stored ≤ length g = oldest-le (s .stored) (groupsOf s) (map (waiting (w .staging)) (s .staged)) g q e (sounds .stored) (staged-for s (w .staging) sounds) in
           let all : blocksIn (queueOf s (w .staging)) ≡ length g + 1 + blocksIn q = ap blocksIn e in
-          by-lt (s .stored) (length g)
+          either (s .stored) (length g)
           (λ h.
           let u = log-update s (w .log) (w .home) (w .frames) (w .staging) (st .result) (st .log′) (st .frames′) ok g q e (st .promise) h in
           turned (updateStored (contentsOf s (w .staging))) (ap accepts (u .answerIs)) (u .staysSound) (u .contentsAre) refl refl refl refl refl (omega (arith, all))

@@ -9,6 +9,7 @@ use native.Mathlib.Omega.{arith}
 use lib.ListN.{length, drop}
 use lib.Dec.{leb}
 use borrow.Author.Tests.{le-leb, eq-eqb, lt-ltb}
+use Rattle.area.proofs.Laws.{and-both}
 use Rattle.promises.specs.Areas.{pageAt}
 use Rattle.promises.specs.Blocks.{Kind, update, commit, clean, LogBlock, Slot, slotsOf}
 use Rattle.promises.specs.DirtyPages.{DirtyPage, applyAll}
@@ -32,8 +33,7 @@ use Rattle.promises.proofs.History.Whole.{same-book}
 use Rattle.promises.proofs.History.Reopened.{last-keepFrom, newest-is, gathered-is, okay, fitting, reports, running}
 use Rattle.promises.specs.Book.{Book, gone}
 use Rattle.promises.specs.Events.{Sizes, World, Opening, Reading}
-use Rattle.promises.specs.Answers.{Reply, settles, shows, accepts, openAnswered}
-use Rattle.promises.proofs.Soundness.{and-both}
+use Rattle.promises.specs.Answers.{Reply, settles, shows, accepts}
 use Rattle.promises.proofs.Ranges.{Ranged}
 use Rattle.promises.proofs.OpenFindings.{open-finds}
 use Rattle.promises.proofs.Kept.{sizesOf, bookOf, Good, apply-all-cong, lives-from}

@@ -2,12 +2,13 @@
 -- Assumes nothing.
 use mathlib.Core.Path.{_≡_, refl, sym, ap, _∙_}
 use mathlib.Core.List.{List, _++_}
-use Prim.Native.Nat.{ℕ, _+_, _*_, _≤_, _<_}
+use Prim.Native.Nat.{ℕ, _+_, _*_, _≤_}
 use native.Mathlib.Omega.{arith}
 use lib.ListN.{length, take, drop}
 use lib.Seq.{take-at, drop-at}
+use Rattle.area.proofs.Laws.{either}
 use Rattle.area.specs.Part.{part}
-use Rattle.area.proofs.Parts.{either, length-part, part-append, part-same, part-before, part-after}
+use Rattle.area.proofs.Parts.{length-part, part-append, part-same, part-before, part-after}
 use Rattle.promises.specs.Areas.{pageAt, withFirstHalf, withSecondHalf}
 
 module _ (home : List ℕ) (q : ℕ) (fits : q * 1024 + 1024 ≤ length home) where

@@ -1,6 +1,6 @@
 -- A call's whole promise from what its accepted step leaves, and from a refusal that leaves everything as it was.
 -- Assumes nothing.
-use mathlib.Core.Path.{_≡_, refl, sym, ap, _∙_, subst}
+use mathlib.Core.Path.{_≡_, sym, ap, _∙_, subst}
 use Prim.Native.Nat.{ℕ, _≤_, _<_}
 use mathlib.Core.List.{List, [], _∷_}
 use native.Mathlib.Omega.{arith}
@@ -8,6 +8,7 @@ use mathlib.Core.Bool.{Bool, true, false}
 use lib.Dec.{ltb}
 use borrow.Author.Tests.{lt-ltb, le-ltb}
 use lib.ListN.{length}
+use Rattle.area.proofs.Laws.{by-eq}
 use Rattle.promises.specs.declared.State.{State}
 use Rattle.promises.specs.declared.Outcome.{Outcome}
 use Rattle.promises.specs.declared.LogOutcome.{LogOutcome}
@@ -15,11 +16,10 @@ use Rattle.promises.specs.declared.OpenOutcome.{OpenOutcome}
 use Rattle.promises.specs.Updates.{Update}
 use Rattle.promises.specs.Walk.{Walk, stops, stands}
 use Rattle.promises.specs.Contents.{queueOf}
-use Rattle.promises.specs.Answers.{done, numberIn, replied, answered, logAnswered}
+use Rattle.promises.specs.Answers.{done, numberIn, answered, logAnswered}
 use Rattle.promises.specs.Open.{openFinding, Opens, OpenStands}
 use Rattle.promises.specs.LogStep.{logRefusalOf, UpdateStep, CommitStep, StoresOf, Stores, LogSteps}
 use Rattle.promises.specs.CleanStep.{cleanRefusalOf, CleanStep, CleanSteps}
-use Rattle.promises.proofs.History.Sees.{by-eq}
 use Rattle.promises.proofs.Replies.{replied-accepted}
 
 module _ (s : State) (log home frames staging : List ℕ) (r : LogOutcome) (log′ frames′ : List ℕ) where

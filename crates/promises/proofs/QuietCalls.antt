@@ -2,15 +2,15 @@
 -- Assumes nothing.
 use denote.Ref.{now}
 use mathlib.Core.Path.{_≡_, refl, sym, ap, _∙_, subst}
-use mathlib.Core.Bool.{Bool, true, false, cond, _&&_}
+use mathlib.Core.Bool.{true, _&&_}
 use Prim.Native.Nat.{ℕ, _+_, _*_, _-_, _<_}
 use mathlib.Core.List.{List, [], _∷_, _++_}
 use native.Mathlib.Omega.{arith}
 use lib.ListN.{length, length-append}
 use lib.Dec.{eqb, leb, ltb}
 use borrow.Author.Tests.{leb-true, ltb-true, eqb-false}
+use Rattle.area.proofs.Laws.{by-eq}
 use Rattle.promises.specs.declared.State.{State}
-use Rattle.promises.specs.declared.Standing.the-variants.{Yes, No}
 use Rattle.promises.specs.Updates.{Update}
 use Rattle.promises.specs.Blocks.{LogBlock}
 use Rattle.promises.specs.Contents.{queueOf}
@@ -24,12 +24,11 @@ use Rattle.promises.specs.Read.{readRefusal, readRefusalOf}
 use Rattle.promises.proofs.Changes.{pick-zero, pick-other, describe-passed}
 use Rattle.promises.proofs.History.Machine.{Live}
 use Rattle.promises.proofs.History.Sizes.{enqueue}
-use Rattle.promises.proofs.History.Sees.{by-eq}
 use Rattle.promises.proofs.History.Recovered.{alive-end, shown-right}
 use Rattle.promises.proofs.History.Whole.{Runs, same-book, places-append}
 use Rattle.promises.specs.Book.{Book, begun, described, ended, ticketGiven}
 use Rattle.promises.specs.Events.{Sizes, World, withState, begin, describe, ending, Beginning, Describing, Ending, Reading, Settling}
-use Rattle.promises.specs.Answers.{Reply, gives, shows, says, accepts, endAnswered, standingAnswered}
+use Rattle.promises.specs.Answers.{Reply, gives, shows, says, accepts}
 use Rattle.promises.specs.Claim.{entered}
 use Rattle.promises.proofs.Replies.{refused-not, accepted-by, no-accept, read-accepted-reply, read-refused-reply}
 use Rattle.promises.proofs.SoundFacts.{and-left, and-right, Facts, facts, length-list, length-queue}

@@ -1,11 +1,11 @@
 -- Sizes in range, as inequalities.
 -- Assumes nothing.
-use Prim.Native.Nat.{ℕ, _≤_}
+use Prim.Native.Nat.{_≤_}
 use lib.Dec.{leb}
 use borrow.Author.Tests.{leb-true}
+use Rattle.area.proofs.Laws.{and-both}
 use Rattle.promises.specs.Events.{Sizes}
 use Rattle.promises.specs.Claim.{InRange}
-use Rattle.promises.proofs.Soundness.{and-both}
 
 pub record Ranged (z : Sizes) : Type 0 where
   pub slots : (8 ≤ z .slots) × (z .slots ≤ 1024)

@@ -6,8 +6,8 @@ use Prim.Native.Nat.{ℕ}
 use mathlib.Core.List.{List}
 use native.Mathlib.Omega.{arith}
 use borrow.Author.Tests.{eq-eqb, ne-eqb}
+use Rattle.area.proofs.Laws.{by-eq}
 use Rattle.promises.specs.Answers.{Reply, refuses, shows, accepts, numberIn, replied, readAnswered}
-use Rattle.promises.proofs.History.Sees.{by-eq}
 
 pub no-accept : {X : Type 0} → _≡_ {A = Bool} false true → X
 no-accept e = let n : _≡_ {A = ℕ} 0 1 = cc in absurd (omega arith)

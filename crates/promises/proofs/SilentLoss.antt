@@ -9,7 +9,8 @@ use native.Mathlib.Omega.{arith}
 use native.Mathlib.Nat.{mod-lt}
 use lib.ListN.{length, getD, set}
 use lib.Seq.{getD-set-same, getD-set-other}
-use Rattle.area.proofs.Parts.{either, length-splice}
+use Rattle.area.proofs.Laws.{by-eq, either}
+use Rattle.area.proofs.Parts.{length-splice}
 use Rattle.block.specs.declared.Judged.{Judged}
 use Rattle.promises.specs.Areas.{pageAt, slotsIn, pagesIn, framesIn, withSlot}
 use Rattle.promises.specs.Blocks.{Kind, update, commit, clean, LogBlock, Slot, unused, damaged, slotIn, slotsOf}
@@ -22,7 +23,6 @@ use Rattle.promises.specs.Answers.{Reply, refuses, settles, shows, accep
 use Rattle.promises.specs.Claim.{Steps, Run}
 use Rattle.promises.specs.Stored.{storedBy}
 use Rattle.promises.specs.SilentLoss.{withLog, NoSilentLoss, SettledStored, WentBad, NoOtherPages}
-use Rattle.promises.proofs.History.Sees.{by-eq}
 use Rattle.promises.proofs.History.WalkStart.{commits, isCommit}
 use Rattle.promises.proofs.History.DamagedSlots as slots
 use Rattle.promises.proofs.History.DamagedSlots.{found-bad, newest-bad}

@@ -8,8 +8,9 @@ use native.Mathlib.Omega.{arith}
 use native.Mathlib.Nat.{mod-lt}
 use lib.ListN.{length, take, drop, getD, set, replicate, length-set}
 use lib.Seq.{ext-getD, getD-set-same, getD-set-other}
+use Rattle.area.proofs.Laws.{by-eq, either}
 use Rattle.area.specs.Part.{part}
-use Rattle.area.proofs.Parts.{either, length-splice, part-same, area-other}
+use Rattle.area.proofs.Parts.{length-splice, part-same, area-other}
 use Rattle.block.specs.Kind.{lengthOf}
 use Rattle.block.specs.Layout.{layout}
 use Rattle.block.specs.Legal.{legal}
@@ -21,7 +22,6 @@ use Rattle.block.proofs.ReadBack.{read-back, new-back, zero-unused}
 use Rattle.promises.specs.Areas.{slotBytes, withSlot}
 use Rattle.promises.specs.Blocks.{Kind, update, commit, clean, LogBlock, fieldsOf, carried, written, stored, Slot, unused, valid, kindIn, slotIn, slotAt, slotsFrom, slotsOf}
 use Rattle.promises.proofs.History.Stored.{store}
-use Rattle.promises.proofs.History.Sees.{by-eq}
 
 -- what the layout asks of a block of this kind
 abbrev pub KindFits : ℕ → ℕ → Kind → Type 0

@@ -1,22 +1,22 @@
 -- What soundness says, in the terms of the invariant.
 -- Assumes nothing.
-use mathlib.Core.Path.{_≡_, refl, sym, ap, _∙_, subst}
-use mathlib.Core.Bool.{Bool, true, false, cond, not, _&&_, _||_}
-use Prim.Native.Nat.{ℕ, zero, suc, _+_, _*_, _-_, _^_, _≤_, _<_, min}
-use mathlib.Core.List.{List, [], _∷_, _++_, map}
+use mathlib.Core.Path.{_≡_, refl, sym, ap, _∙_}
+use mathlib.Core.Bool.{Bool, true, false, not, _&&_}
+use Prim.Native.Nat.{ℕ, suc, _+_, _-_, _^_, _≤_, _<_, min}
+use mathlib.Core.List.{List, [], _∷_, map}
 use native.Mathlib.Omega.{arith}
-use lib.ListN.{length, take, drop, length-take, length-drop, length-map}
+use lib.ListN.{length, drop, length-take, length-drop, length-map}
 use lib.Seq.{length-take-le}
-use lib.Dec.{eqb, leb, ltb}
-use borrow.Author.Tests.{leb-true, ltb-true, eqb-true, eqb-false, eq-eqb, ne-eqb, not-true}
+use lib.Dec.{eqb, ltb}
+use borrow.Author.Tests.{ltb-true, not-true}
 use Rattle.promises.specs.declared.State.{State}
 use Rattle.promises.specs.declared.Dirty.{Dirty}
 use Rattle.promises.specs.Areas.{pageAt}
 use Rattle.promises.specs.Updates.{Update}
-use Rattle.promises.specs.DirtyPages.{DirtyPage, Found, absent, at, lookUp, keepFromOf}
+use Rattle.promises.specs.DirtyPages.{keepFromOf}
 use Rattle.promises.specs.Contents.{unless, dirtyFrom, dirtyOf, groupsOf, grouped, queueOf, listOf, waiting, total}
-use Rattle.promises.specs.Sums.{firstGroups, halfStarts, openOnes, smallest, blockCount, dirtyCount, heldSlots, waitingBlocks, queuedUpdates, reservedUpdates, owedBlocks}
-use Rattle.promises.specs.Sound.{dirtyNumbers, member, distinct, allBelow, sizesLegal, ofOldest, names, sizesSound, sound}
+use Rattle.promises.specs.Sums.{firstGroups, smallest, dirtyCount, heldSlots, waitingBlocks, reservedUpdates, owedBlocks}
+use Rattle.promises.specs.Sound.{dirtyNumbers, member, distinct, allBelow, ofOldest, sound}
 use Rattle.promises.proofs.Soundness.{Sound, sound-of}
 use Rattle.promises.proofs.Changes.{held-is}
 use Rattle.promises.proofs.Table.{lookUp-none}

@@ -1,13 +1,13 @@
 -- Soundness as a record of facts: what a sound state gives, and what makes a state sound.
 -- Assumes nothing.
-use mathlib.Core.Path.{_≡_, refl, sym, ap, _∙_}
-use mathlib.Core.Bool.{Bool, true, false, _&&_}
+use mathlib.Core.Path.{_≡_, refl}
+use mathlib.Core.Bool.{true, false, _&&_}
 use Prim.Native.Nat.{ℕ, _+_, _-_, _^_, _≤_, _<_}
-use native.Mathlib.Omega.{arith}
 use lib.ListN.{length, take, drop}
-use lib.Dec.{eqb, leb, ltb}
+use lib.Dec.{leb}
 use borrow.Author.Tests.{leb-true, ltb-true, eqb-true, le-leb, lt-ltb, eq-eqb}
 use mathlib.Core.List.{List}
+use Rattle.area.proofs.Laws.{and-both, and2}
 use Rattle.promises.specs.declared.State.{State}
 use Rattle.promises.specs.declared.Dirty.{Dirty}
 use Rattle.promises.specs.declared.Staged.{Staged}
@@ -41,13 +41,6 @@ use Rattle.promises.specs.Sound.{
   sequenceSumSound,
   sound,
 }
-
-pub and-both : (a b : Bool) → (a && b) ≡ true → (a ≡ true) × (b ≡ true)
-and-both true b e = (refl, e)
-and-both false b e = let z : _≡_ {A = ℕ} 0 1 = cc in absurd (omega arith)
-
-pub and2 : {a b : Bool} → a ≡ true → b ≡ true → (a && b) ≡ true
-and2 e f = rw (e, f)
 
 pub record Sound (s : State) : Type 0 where
   pub pages : (1 ≤ s .pages) × (s .pages ≤ 4096)

@@ -1,15 +1,15 @@
 -- The table of frames when one entry and its frame change: what looking a page up finds. Commit, Open and the clean block change it so.
 -- Assumes nothing.
 use mathlib.Core.Path.{_≡_, refl, sym, ap, _∙_, subst}
-use mathlib.Core.Bool.{Bool, true, false, cond, not, _&&_, _||_}
-use Prim.Native.Nat.{ℕ, zero, suc, _+_, _*_, _-_, _≤_, _<_}
-use mathlib.Core.List.{List, [], _∷_, _++_}
+use mathlib.Core.Bool.{Bool, true, false, cond, not, _&&_}
+use Prim.Native.Nat.{ℕ, zero, suc, _+_, _-_, _≤_, _<_}
+use mathlib.Core.List.{List, [], _∷_}
 use native.Mathlib.Omega.{arith}
 use lib.ListN.{length, getD, set}
 use lib.Seq.{set-getD}
 use lib.Dec.{eqb}
-use borrow.Author.Tests.{eqb-true, eqb-false, eq-eqb, ne-eqb}
-use Rattle.block.proofs.Tests.{by-cases}
+use borrow.Author.Tests.{eqb-true, eqb-false, ne-eqb}
+use Rattle.area.proofs.Laws.{and-both, by-cases, or-false}
 use Rattle.promises.specs.declared.Dirty.{Dirty}
 use Rattle.promises.specs.Areas.{pageAt}
 use Rattle.promises.specs.Updates.{Update, put}
@@ -17,7 +17,6 @@ use Rattle.promises.specs.States.{free}
 use Rattle.promises.specs.DirtyPages.{DirtyPage, Found, absent, at, lookUp, apply, without}
 use Rattle.promises.specs.Contents.{unless, dirtyFrom}
 use Rattle.promises.specs.Sound.{member, dirtyNumbers}
-use Rattle.promises.proofs.Soundness.{and-both}
 
 -- ---- what a look-up finds
 
@@ -40,10 +39,6 @@ dirty-cong : (frames frames′ : List ℕ) (f : ℕ) (ds : List Dirty) → ((g :
 unfolding dirtyFrom
 dirty-cong frames frames′ f [] h = refl
 dirty-cong frames frames′ f (d ∷ ds) h = rw (h f (omega arith), dirty-cong frames frames′ (suc f) ds (λ g l. h g (omega arith))) refl
-
-pub or-false : (a b : Bool) → (a || b) ≡ false → (a ≡ false) × (b ≡ false)
-or-false true b e = let z : _≡_ {A = ℕ} 0 1 = cc in absurd (omega arith)
-or-false false b e = (refl, e)
 
 -- what an entry before the changed one does: it is not the changed page
 swap : (p : ℕ) (b c : Bool) (x y r : Found) → (c ≡ true → b ≡ false) → cond b x (cond c y r) ≡ cond c y (cond b x r)

@@ -10,6 +10,7 @@ use lib.ListN.{length, take}
 use lib.Seq.{length-take-le}
 use lib.Dec.{eqb, leb}
 use borrow.Author.Tests.{leb-true, eqb-true, eq-eqb, ne-eqb, le-leb}
+use Rattle.area.proofs.Laws.{and-both, by-eq}
 use Rattle.promises.specs.declared.State.{State}
 use Rattle.promises.specs.declared.Cleaning.{Cleaning}
 use Rattle.promises.specs.declared.Cleaning.the-variants.{Idle, First, Second, Third}
@@ -19,17 +20,16 @@ use Rattle.promises.specs.Sound.{sound, ofOldest}
 use Rattle.promises.specs.Begin.{beginInRange, beginRefusal}
 use Rattle.promises.specs.CleanStep.{thirdRefusal}
 use Rattle.promises.specs.Events.{World, begin, logStep, cleanStep}
-use Rattle.promises.specs.Answers.{Reply, refuses, accepts, answered, numberIn}
+use Rattle.promises.specs.Answers.{Reply, refuses, accepts, numberIn}
 use Rattle.promises.specs.Claim.{Steps}
 use Rattle.promises.specs.Waiting.{Fitting, Calls, none, more, AllAccepted, Served, Serves, Waits, WaitBound}
 use Rattle.promises.proofs.Changes.{held-is}
-use Rattle.promises.proofs.Soundness.{and-both, Sound, sound-of}
+use Rattle.promises.proofs.Soundness.{Sound, sound-of}
 use Rattle.promises.proofs.Replies.{accepted-by, number-by}
 use Rattle.promises.proofs.RefusedCalls.{begin-refused}
 use Rattle.promises.proofs.LogTurns.{log-turn}
 use Rattle.promises.proofs.CleanTurns.{CleanPassed, storesMade, storesLeft, clean-turn}
 use Rattle.promises.proofs.Refines.{Refines}
-use Rattle.promises.proofs.History.Sees.{by-eq}
 
 -- ---- what Begin asked of u before it was refused as full
 pub record Asks (N F u : ℕ) : Type 0 where

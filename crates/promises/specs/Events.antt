@@ -3,7 +3,7 @@
 use denote.Ref.{RefT, now}
 use mathlib.Core.Path.{_≡_}
 use Prim.Native.Nat.{ℕ}
-use mathlib.Core.Bool.{Bool, true, false, cond}
+use mathlib.Core.Bool.{Bool, cond}
 use mathlib.Core.List.{List}
 use lib.ListN.{length}
 use Rattle.promises.specs.declared.State.{State}

@@ -1,9 +1,9 @@
 -- What Read promises. Read (page), lent home and frames to read only: 2; 1; 3. The page is a part of home or of frames, never a copy.
 -- Assumes nothing.
 use denote.Ref.{RefT, now}
-use Prim.Native.Nat.{ℕ, zero, suc, _+_, _*_}
+use Prim.Native.Nat.{ℕ, suc, _+_, _*_}
 use mathlib.Core.Path.{_≡_}
-use mathlib.Core.Bool.{Bool, cond, not, _&&_}
+use mathlib.Core.Bool.{cond, not, _&&_}
 use mathlib.Core.List.{List, [], _∷_}
 use lib.ListN.{length}
 use lib.Dec.{eqb, ltb}

@@ -1,6 +1,6 @@
 -- When a state is SOUND: document 01's sentence, clause by clause.
 -- Assumes nothing.
-use Prim.Native.Nat.{ℕ, _+_, _*_}
+use Prim.Native.Nat.{ℕ, _+_}
 use mathlib.Core.Bool.{Bool, true, false, not, _&&_, _||_}
 use mathlib.Core.List.{List, [], _∷_}
 use lib.ListN.{length, take, drop}
@@ -14,7 +14,7 @@ use Rattle.promises.specs.declared.Cleaning.{Cleaning}
 use Rattle.promises.specs.declared.Cleaning.the-variants.{Idle, First, Second, Third}
 use Rattle.promises.specs.Areas.{slotsInRange, pagesInRange, framesInRange}
 use Rattle.promises.specs.Contents.{unless, total, groupsOf}
-use Rattle.promises.specs.Sums.{firstGroups, groupStart, dirtyCount, slotsTaken, framesTaken, sequencesTaken, reservedUpdates, owedBlocks}
+use Rattle.promises.specs.Sums.{firstGroups, groupStart, slotsTaken, framesTaken, sequencesTaken, reservedUpdates, owedBlocks}
 
 -- ---- lists of numbers
 abbrev pub member : ℕ → List ℕ → Bool

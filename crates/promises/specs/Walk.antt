@@ -1,7 +1,7 @@
 -- Open's walk over the blocks k to M, and what comes of an opening.
 -- A GROUP is updates with indexes 1 to n and then a commit with index n, in consecutive blocks.
 -- Assumes nothing.
-use Prim.Native.Nat.{ℕ, zero, suc, _+_, _-_}
+use Prim.Native.Nat.{ℕ, suc, _+_, _-_}
 use mathlib.Core.Bool.{Bool, true, cond, _&&_, _||_}
 use mathlib.Core.List.{List, [], _∷_, _++_}
 use lib.ListN.{length}

@@ -8,6 +8,7 @@ use native.Mathlib.Omega.{arith}
 use lib.ListN.{length, take, drop, getD, length-append, length-map, length-drop}
 use lib.Seq.{take-append-le, drop-append-le, drop-drop, take-add}
 use lib.Dec.{eqb, ltb}
+use Rattle.area.proofs.Laws.{and-both, map-take}
 use Rattle.block.specs.Legal.{legalPlace}
 use Rattle.promises.specs.declared.State.{State}
 use Rattle.promises.specs.declared.Dirty.{Dirty}
@@ -18,7 +19,7 @@ use Rattle.promises.specs.Updates.{Update, ofPage}
 use Rattle.promises.specs.Contents.{contentsOf, waiting, total, grouped, groupsOf, queueOf, listOf}
 use Rattle.promises.specs.Sound.{member, distinct, allBelow, allLegal, areasOf, stagedOf}
 use Rattle.promises.specs.LogStep.{idleUnlessNone, cleaningAfter, shifted, commitStored}
-use Rattle.promises.proofs.Soundness.{and-both, Sound}
+use Rattle.promises.proofs.Soundness.{Sound}
 use Rattle.queue.specs.Queue.{changes, idleIf, cleaningLeft, commitDone}
 
 -- ---- lists
@@ -144,11 +145,6 @@ idle-same staging page (x ∷ xs) cleaning = go (eqb page (x .page)) (idle-same 
     go true e = refl
     go false e = e
 
-pub map-take : {A B : Type 0} (f : A → B) (n : ℕ) (l : List A) → map f (take n l) ≡ take n (map f l)
-map-take f zero l = refl
-map-take f (suc n) [] = refl
-map-take f (suc n) (x ∷ l) = ap (λ r. f x ∷ r) (map-take f n l)
-
 -- no staged update changes the page: no update is of it
 pub unchanged : (staging : List ℕ) (page : ℕ) (xs : List Staged) → changes page xs ≡ false → ofPage page (map (waiting staging) xs) ≡ []
 unfolding ofPage
@@ -166,13 +162,13 @@ unfolding cleaningLeft cleaningAfter
 cleaning-left-is staging size staged Idle = refl
 cleaning-left-is staging size staged (First page) =
     idle-same staging page (take size staged) (First page)
-    ∙ ap (λ (us : List Update). idleUnlessNone (ofPage page us) (First page)) (map-take (waiting staging) size staged)
+    ∙ ap (λ (us : List Update). idleUnlessNone (ofPage page us) (First page)) (sym (map-take (waiting staging) size staged))
 cleaning-left-is staging size staged (Second page) =
     idle-same staging page (take size staged) (Second page)
-    ∙ ap (λ (us : List Update). idleUnlessNone (ofPage page us) (Second page)) (map-take (waiting staging) size staged)
+    ∙ ap (λ (us : List Update). idleUnlessNone (ofPage page us) (Second page)) (sym (map-take (waiting staging) size staged))
 cleaning-left-is staging size staged (Third page) =
     idle-same staging page (take size staged) (Third page)
-    ∙ ap (λ (us : List Update). idleUnlessNone (ofPage page us) (Third page)) (map-take (waiting staging) size staged)
+    ∙ ap (λ (us : List Update). idleUnlessNone (ofPage page us) (Third page)) (sym (map-take (waiting staging) size staged))
 
 -- ---- THE CONTENTS ONCE THE GROUP IS COMMITTED
 pub contents-left : (s : State) (dirty : List Dirty) (staging : List ℕ) (g : List Update) (q : List (List Update)) → Sound s → 1 ≤ s .queued

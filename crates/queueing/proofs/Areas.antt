@@ -8,7 +8,7 @@ use native.Mathlib.Omega.{arith}
 use lib.Dec.{eqb, leb}
 use lib.ListN.{length}
 use borrow.Author.Tests.{eqb-true, leb-true, le-leb, lt-leb}
-use Rattle.block.proofs.Tests.{by-cases}
+use Rattle.area.proofs.Laws.{by-cases}
 use Rattle.promises.specs.Sound.{member}
 
 -- how many areas of a list are from a number on

@@ -9,10 +9,10 @@ use native.Mathlib.Numerals.{add-one}
 use lib.Dec.{eqb}
 use lib.ListN.{length, take, drop, getD, set}
 use denote.Ref.{RefT, now}
+use Rattle.area.proofs.Laws.{by-cases}
 use Rattle.area.specs.Part.{part, splice}
 use Rattle.area.proofs.Parts.{from-to, part-all}
 use borrow.Author.Tests.{lt-ltb, le-ltb}
-use Rattle.block.proofs.Tests.{by-cases}
 use Rattle.promises.specs.declared.Dirty.{Dirty}
 use Rattle.promises.specs.declared.Staged.{Staged}
 use Rattle.promises.specs.Sums.{firstGroups}

@@ -6,7 +6,7 @@ use mathlib.Core.List.{List}
 use Prim.Native.Nat.{ℕ, _+_}
 use lib.Dec.{eqb}
 use borrow.Author.Tests.{eq-eqb, ne-eqb, not-true, not-false}
-use Rattle.block.proofs.Tests.{never-both}
+use Rattle.area.proofs.Laws.{never-both}
 use Rattle.promises.specs.Blocks.{update, commit, clean}
 use Rattle.promises.specs.LogStep.{noUpdate}
 use Rattle.table.specs.declared.Table.{Table}

@@ -8,10 +8,9 @@ use native.Mathlib.Omega.{arith}
 use lib.Dec.{ltb}
 use lib.ListN.{length}
 use borrow.Author.Tests.{ltb-true, ltb-false}
-use Rattle.block.proofs.Tests.{never-both}
+use Rattle.area.proofs.Laws.{and-both, never-both}
 use Rattle.block.specs.declared.Kind.{Kind}
 use Rattle.promises.specs.Updates.{Update}
-use Rattle.promises.proofs.Soundness.{and-both}
 use Rattle.table.specs.declared.Table.{Table}
 use Rattle.table.specs.Table.{Applies, AppliesAll}
 use Rattle.table.specs.Seats.{seated}

@@ -6,7 +6,7 @@ use mathlib.Core.List.{List, _∷_}
 use Prim.Native.Nat.{ℕ, suc, _+_, _-_, _≤_, _<_}
 use native.Mathlib.Omega.{arith}
 use native.Mathlib.Decide.{ℕ-discrete}
-use Rattle.block.proofs.Tests.{by-cases}
+use Rattle.area.proofs.Laws.{by-cases}
 use Rattle.promises.specs.Areas.{pageAt}
 use Rattle.promises.specs.Blocks.{LogBlock}
 use Rattle.promises.specs.Walk.{Walk as PaperWalk, walkBlock, inOrder, framed, Finding, stops, walkFrom}

@@ -8,10 +8,10 @@ use native.Mathlib.Omega.{arith}
 use lib.Dec.{eqb, leb}
 use lib.ListN.{length}
 use borrow.Author.Tests.{eqb-false, leb-true, leb-false}
+use Rattle.area.proofs.Laws.{by-cases, never-both}
 use Rattle.block.specs.Kind.{updateBlock}
 use Rattle.block.specs.Legal.{legal}
 use Rattle.block.specs.declared.Kind as format
-use Rattle.block.proofs.Tests.{by-cases, never-both}
 use Rattle.block.proofs.Facts.{facts, Facts, UpdateFacts, update-facts}
 use Rattle.promises.specs.Areas.{pageAt, slotsIn, pagesIn}
 use Rattle.promises.specs.Updates.{Update}

@@ -7,7 +7,7 @@ use Prim.Native.Nat.{ℕ, _+_, _*_, _-_, _^_, _≤_, _<_}
 use native.Mathlib.Omega.{arith}
 use lib.Dec.{leb, ltb, eqb}
 use borrow.Author.Tests.{le-leb, lt-leb, lt-ltb, le-ltb, ltb-true, ltb-false, eqb-false, eq-eqb, ne-eqb}
-use Rattle.block.proofs.Tests.{never-both}
+use Rattle.area.proofs.Laws.{never-both}
 use Rattle.script.specs.Lines.{isDigit, allDigits, spelledFrom, isNumberFrom}
 
 -- ---- tests

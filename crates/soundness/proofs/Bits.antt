@@ -3,8 +3,8 @@
 use Prim.Native.Nat.{ℕ, zero, suc, _+_, _-_, _*_, _/_, _%_, _^_, _<_}
 use mathlib.Core.Path.{_≡_, sym, ap, _∙_}
 use native.Mathlib.Omega.{arith}
-use Rattle.area.proofs.Parts.{either}
 use native.Mathlib.Nat.{mul-assoc, pow-succ', one-le-pow, add-div-right, add-mul-div-left, zero-div, div-div-eq-div-mul}
+use Rattle.area.proofs.Laws.{either}
 
 abbrev pub bit : ℕ → ℕ → ℕ
 bit place word = word / 2 ^ place % 2

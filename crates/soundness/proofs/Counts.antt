@@ -8,12 +8,13 @@ use lib.Dec.{leb, ltb}
 use lib.ListN.{length}
 use lib.Seq.{length-take-le}
 use borrow.Author.Tests.{eq-eqb, ne-eqb}
+use Rattle.area.proofs.Laws.{and-both}
 use Rattle.promises.specs.declared.State.{State}
 use Rattle.promises.specs.Contents.{total, groupsOf}
 use Rattle.promises.specs.Sums.{firstGroups, groupStart, smallest, blockCount, dirtyCount, owedBlocks, reservedUpdates, waitingBlocks}
 use Rattle.soundness.specs.declared.sums.Sums.{Sums}
 use Rattle.promises.specs.Sound.{sizesLegal, ofOldest, sound}
-use Rattle.promises.proofs.Soundness.{and-both, Sound, sound-of}
+use Rattle.promises.proofs.Soundness.{Sound, sound-of}
 use Rattle.promises.proofs.Changes.{held-is, stored-few}
 use Rattle.block.proofs.Tests.{tests}
 use Rattle.soundness.specs.Tests.{inRange, fitting, countsLegal}

@@ -9,13 +9,14 @@ use native.Mathlib.Nat.{sub-zero}
 use lib.Dec.{leb}
 use lib.ListN.{length, take, getD}
 use borrow.Author.Tests.{leb-true, ltb-true, le-leb, lt-ltb}
-use Rattle.block.proofs.Tests.{never-both, not-passed, bool-ext}
+use Rattle.area.proofs.Laws.{and-both, and2, never-both, not-passed}
+use Rattle.block.proofs.Tests.{bool-ext}
 use Rattle.promises.specs.declared.State.{State}
 use Rattle.promises.specs.declared.Staged.{Staged}
 use Rattle.promises.specs.Contents.{total, groupsOf}
 use Rattle.promises.specs.Sums.{framesTaken, reservedUpdates}
 use Rattle.promises.specs.Sound.{distinct, dirtyNumbers, areasOf, sizesLegal, ofOldest, stagedOf, ticketSound, slotSumSound, frameSumSound, sequenceSumSound, names, cleaningSound, sound}
-use Rattle.promises.proofs.Soundness.{and-both, and2, Sound, sound-of, of-sound}
+use Rattle.promises.proofs.Soundness.{Sound, sound-of, of-sound}
 use Rattle.soundness.specs.Tests.{inRange, fitting, countsLegal, entriesLegal, pagesLegal, updatesLegal, waitingLegal}
 use Rattle.soundness.proofs.Scans.{stored-oldest}
 use Rattle.soundness.proofs.Counts.{InRange, range-of, of-range, reserved-is}

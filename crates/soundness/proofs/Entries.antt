@@ -9,14 +9,12 @@ use lib.Dec.{eqb, ltb}
 use lib.ListN.{length, drop}
 use lib.Seq.{drop-nil}
 use borrow.Author.Tests.{ltb-true, lt-ltb}
-use Rattle.area.proofs.Parts.{either}
+use Rattle.area.proofs.Laws.{and-both, and2, by-cases, either}
 use Rattle.block.specs.Legal.{legalPlace}
-use Rattle.block.proofs.Tests.{by-cases}
 use Rattle.promises.specs.declared.Dirty.{Dirty}
 use Rattle.promises.specs.declared.Staged.{Staged}
 use Rattle.promises.specs.Sums.{firstGroups}
 use Rattle.promises.specs.Sound.{allBelow, dirtyNumbers, areasOf, allLegal}
-use Rattle.promises.proofs.Soundness.{and-both, and2}
 use Rattle.soundness.specs.Tests.{entryLegal, entriesLegal, stagedLegal, updatesLegal}
 
 module _ (pages frames next : ℕ) where

@@ -10,10 +10,8 @@ use lib.Dec.{eqb}
 use lib.ListN.{length, drop, getD, set, replicate, length-set, length-replicate, getD-replicate}
 use lib.Seq.{drop-length, getD-set-same, getD-set-other}
 use borrow.Author.Tests.{eq-eqb, ne-eqb}
-use Rattle.block.proofs.Tests.{never-both, not-passed}
+use Rattle.area.proofs.Laws.{and-both, and2, by-eq, never-both, not-passed}
 use Rattle.promises.specs.Sound.{member, distinct}
-use Rattle.promises.proofs.Soundness.{and-both, and2}
-use Rattle.promises.proofs.History.Sees.{by-eq}
 use Rattle.soundness.proofs.Bits.{bit, set-here, set-apart, set-fits}
 
 -- what is left of distinct numbers is distinct

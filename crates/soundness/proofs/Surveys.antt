@@ -8,10 +8,10 @@ use lib.Dec.{eqb}
 use lib.ListN.{length, drop, take, getD}
 use native.Mathlib.Omega.{arith}
 use borrow.Author.Tests.{eqb-true, not-false}
+use Rattle.area.proofs.Laws.{or-false}
 use Rattle.promises.specs.declared.Dirty.{Dirty}
 use Rattle.promises.specs.Sums.{firstGroups, smallest}
 use Rattle.promises.specs.Sound.{dirtyNumbers}
-use Rattle.promises.proofs.Table.{or-false}
 use Rattle.promises.specs.States.{free}
 use Rattle.soundness.specs.Tests.{entriesLegal}
 use Rattle.soundness.proofs.Scans.{firsts-same, oldest-same, legal-same, gathered-same}

@@ -7,7 +7,7 @@ use Prim.Native.Nat.{ℕ, suc, _≤_}
 use native.Mathlib.Omega.{arith}
 use lib.Dec.{eqb, ltb}
 use borrow.Author.Tests.{ltb-true}
-use Rattle.block.proofs.Tests.{by-cases}
+use Rattle.area.proofs.Laws.{and-both, by-cases}
 use Rattle.promises.specs.declared.Dirty.{Dirty}
 use Rattle.promises.specs.Areas.{pageAt}
 use Rattle.promises.specs.Updates.{Update}
@@ -15,7 +15,6 @@ use Rattle.promises.specs.DirtyPages.{DirtyPage, absent, at, lookUp, apply, app
 use Rattle.promises.specs.Contents.{unless, dirtyFrom}
 use Rattle.promises.specs.Sums.{firstGroups}
 use Rattle.promises.specs.Sound.{member, allBelow, dirtyNumbers}
-use Rattle.promises.proofs.Soundness.{and-both}
 use Rattle.promises.proofs.Table.{found-absent, lookUp-none}
 use Rattle.table.specs.declared.Table.{Table}
 use Rattle.table.specs.Table.{Holds}

@@ -10,9 +10,9 @@ use lib.Dec.{eqb}
 use lib.ListN.{length, getD, set}
 use lib.Seq.{length-take-le, getD-take, getD-set-other, set-getD, drop-set-lt}
 use borrow.Author.Tests.{eqb-true, eqb-false, eq-eqb, ne-eqb, lt-ltb, le-ltb, not-true}
+use Rattle.area.proofs.Laws.{and-both, by-cases, either}
 use Rattle.area.specs.Part.{part, splice}
-use Rattle.area.proofs.Parts.{either, length-part, length-splice, part-all, part-same, area-other}
-use Rattle.block.proofs.Tests.{by-cases}
+use Rattle.area.proofs.Parts.{length-part, length-splice, part-all, part-same, area-other}
 use Rattle.promises.specs.declared.Dirty.{Dirty}
 use Rattle.promises.specs.Areas.{pageAt}
 use Rattle.promises.specs.Updates.{Update, put}
@@ -20,7 +20,6 @@ use Rattle.promises.specs.DirtyPages.{DirtyPage, Found, absent, at, lookUp, app
 use Rattle.promises.specs.Contents.{dirtyFrom}
 use Rattle.promises.specs.Sums.{firstGroups}
 use Rattle.promises.specs.Sound.{member, dirtyNumbers}
-use Rattle.promises.proofs.Soundness.{and-both}
 use Rattle.promises.proofs.Table.{entryOr, lookUp-set, apply-new, apply-old, lookUp-none, lookUp-freed, lookUp-without}
 use Rattle.promises.proofs.History.WalkStart.{distinct-apply, distinct-without}
 use Rattle.table.specs.declared.Table.{Table}

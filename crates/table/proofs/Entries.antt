@@ -8,13 +8,11 @@ use native.Mathlib.Omega.{arith}
 use lib.Dec.{eqb, ltb}
 use lib.ListN.{length, take, drop, getD, set}
 use borrow.Author.Tests.{eqb-true, eqb-false, eq-eqb, ne-eqb, ltb-true, not-true}
-use Rattle.block.proofs.Tests.{by-cases}
+use Rattle.area.proofs.Laws.{and-both, and2, by-cases, or-false}
 use Rattle.promises.specs.declared.Dirty.{Dirty}
 use Rattle.promises.specs.Contents.{unless}
 use Rattle.promises.specs.Sums.{firstGroups}
 use Rattle.promises.specs.Sound.{member, distinct, allBelow, dirtyNumbers}
-use Rattle.promises.proofs.Soundness.{and-both, and2}
-use Rattle.promises.proofs.Table.{or-false}
 use Rattle.table.specs.Search.{isFree, placeOf}
 use Rattle.promises.specs.States.{free, isOf, freed}
 

@@ -6,8 +6,9 @@ use Prim.Native.Nat.{ℕ, _+_, _-_, _*_, _≤_, _<_}
 use native.Mathlib.Omega.{arith}
 use lib.ListN.{length, take, drop, length-append, length-take, length-drop, take-append-drop}
 use lib.Seq.{take-append-le, drop-append-le, take-append-add, drop-append-add, take-at, drop-at, length-take-le, drop-drop}
+use Rattle.area.proofs.Laws.{either}
 use Rattle.area.specs.Part.{part, splice}
-use Rattle.area.proofs.Parts.{either, part-before, part-after}
+use Rattle.area.proofs.Parts.{part-before, part-after}
 use Rattle.promises.specs.Areas.{pageAt}
 use Rattle.promises.specs.Updates.{Update, put}
 

@@ -8,7 +8,7 @@ use native.Mathlib.Omega.{arith}
 use lib.Dec.{eqb}
 use lib.ListN.{length, replicate}
 use borrow.Author.Tests.{eqb-true, eqb-false, ne-eqb, lt-ltb}
-use Rattle.block.proofs.Tests.{by-cases}
+use Rattle.area.proofs.Laws.{and2, by-cases}
 use Rattle.promises.specs.declared.State.{State}
 use Rattle.promises.specs.declared.Dirty.{Dirty}
 use Rattle.promises.specs.Areas.{pageAt}
@@ -17,7 +17,7 @@ use Rattle.promises.specs.DirtyPages.{DirtyPage, absent, at, lookUp, apply, wit
 use Rattle.promises.specs.Contents.{unless, dirtyFrom, dirtyOf}
 use Rattle.promises.specs.Sums.{firstGroups, smallest}
 use Rattle.promises.specs.Sound.{distinct, allBelow, dirtyNumbers, sound}
-use Rattle.promises.proofs.Soundness.{Sound, sound-of, and2}
+use Rattle.promises.proofs.Soundness.{Sound, sound-of}
 use Rattle.promises.proofs.SoundFacts.{length-dirty, keepFrom-dirty, distinct-dirty}
 use Rattle.promises.proofs.History.WalkStart.{Distinct, lookUp-head}
 use Rattle.table.specs.declared.Table.{Table}

@@ -8,11 +8,10 @@ use native.Mathlib.Omega.{arith}
 use lib.Dec.{eqb}
 use lib.ListN.{length}
 use borrow.Author.Tests.{not-true}
-use Rattle.block.proofs.Tests.{by-cases}
+use Rattle.area.proofs.Laws.{and-both, and2, by-cases}
 use Rattle.promises.specs.Updates.{Update}
 use Rattle.promises.specs.DirtyPages.{DirtyPage, absent, at, lookUp, apply, applyAll}
 use Rattle.promises.specs.Sound.{member, distinct}
-use Rattle.promises.proofs.Soundness.{and-both, and2}
 use Rattle.promises.proofs.History.WalkStart.{Distinct}
 use Rattle.table.specs.Table.{pagesOf}
 

@@ -10,7 +10,7 @@ use lib.Dec.{eqb, ltb}
 use lib.ListN.{length, take, drop, getD, drop-of-length-le, length-map}
 use lib.Seq.{drop-cons, getD-take, length-take-le}
 use borrow.Author.Tests.{eq-eqb, ne-eqb, eqb-false, ltb-true, ltb-false}
-use Rattle.block.proofs.Tests.{by-cases}
+use Rattle.area.proofs.Laws.{by-cases}
 use Rattle.promises.specs.declared.Dirty.{Dirty}
 use Rattle.promises.specs.Contents.{unless}
 use Rattle.promises.specs.Sums.{firstGroups, smallest}

@@ -10,9 +10,8 @@ use lib.Dec.{eqb, ltb, leb}
 use lib.ListN.{length, take, drop, getD, set, replicate, length-append, length-map, length-set, length-replicate, replicate-append-replicate, drop-of-length-le, List·getD-append, List·getD-map}
 use lib.Seq.{drop-cons, take-at, drop-at, set-at, take-suc, take-length, length-take-le, set-append-left}
 use borrow.Author.Tests.{lt-ltb, le-ltb, eq-eqb, ne-eqb, eqb-true, eqb-false, leb-true, leb-false}
+use Rattle.area.proofs.Laws.{by-cases, either, map-set}
 use Rattle.area.specs.Part.{splice}
-use Rattle.area.proofs.Parts.{either}
-use Rattle.block.proofs.Tests.{by-cases}
 use Rattle.promises.specs.declared.Dirty.{Dirty}
 use Rattle.promises.specs.Areas.{pageAt}
 use Rattle.promises.specs.Sums.{firstGroups, smallest}
@@ -24,11 +23,6 @@ use Rattle.table.specs.Seats.{entryIn, dirtyIn, seated}
 use Rattle.table.proofs.Scans.{groups-more, groups-same, lower, not-lower}
 use Rattle.table.proofs.Entries.{free-groups}
 use Rattle.table.proofs.Applying.{enters-used, enters-free, seat-held, seat-free, drops-not, drops-at}
-
-map-set : {A B : Type 0} (f : A → B) (l : List A) (i : ℕ) (a : A) → map f (set l i a) ≡ set (map f l) i (f a)
-map-set f [] i a = refl
-map-set f (x ∷ l) zero a = refl
-map-set f (x ∷ l) (suc i) a = ap (λ (r : List _). f x ∷ r) (map-set f l i a)
 
 -- ---- one seat
 

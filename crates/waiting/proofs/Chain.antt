@@ -8,6 +8,7 @@ use mathlib.Core.List.{List}
 use native.Mathlib.Omega.{arith}
 use lib.Dec.{eqb}
 use borrow.Author.Tests.{eq-eqb, ne-eqb}
+use Rattle.area.proofs.Laws.{by-eq}
 use Rattle.promises.specs.declared.State.{State}
 use Rattle.promises.specs.declared.Outcome.{Outcome}
 use Rattle.promises.specs.declared.LogOutcome.{LogOutcome}
@@ -23,7 +24,6 @@ use Rattle.promises.proofs.Promised.{log-number}
 use Rattle.promises.proofs.RefusedCalls.{log-refused, clean-refused}
 use Rattle.promises.proofs.LogTurns.{log-turn, log-passed}
 use Rattle.promises.proofs.CleanTurns.{storesLeft, clean-turn, clean-passed}
-use Rattle.promises.proofs.History.Sees.{by-eq}
 use Rattle.waiting.specs.Waiting.{worldOf, Until, refused, accepted}
 
 -- 1 while the last call was accepted

@@ -3,12 +3,13 @@
 use mathlib.Core.Path.{_≡_, refl, sym, ap, _∙_, subst}
 use Prim.Native.Nat.{ℕ, zero, suc, _+_, _*_, _^_, _≤_, _<_}
 use native.Mathlib.Omega.{arith}
+use Rattle.area.proofs.Laws.{by-eq}
 use Rattle.promises.specs.Sums.{dirtyCount, waitingBlocks}
 use Rattle.promises.specs.LogStep.{logRefusalOf}
 use Rattle.promises.specs.CleanStep.{cleanRefusalOf}
 use Rattle.promises.specs.Begin.{beginRefusal}
 use Rattle.promises.specs.Events.{World, logStep, cleanStep, Beginning, Logging, Cleaning}
-use Rattle.promises.specs.Answers.{Reply, refuses, done, accepts, answered}
+use Rattle.promises.specs.Answers.{Reply, refuses, done, accepts}
 use Rattle.promises.specs.Claim.{promised}
 use Rattle.promises.specs.Waiting.{Fitting}
 use Rattle.promises.proofs.Replies.{accepted-by}
@@ -18,7 +19,6 @@ use Rattle.promises.proofs.LogTurns.{log-nothing}
 use Rattle.promises.proofs.CleanTurns.{clean-nothing}
 use Rattle.promises.proofs.Refines.{Refines}
 use Rattle.promises.proofs.WaitBound.{Full, is-full, Logs, Cleans, none-waits, from-logs, begin-passes, none-left, log-one, clean-one, start-logs, room-left}
-use Rattle.promises.proofs.History.Sees.{by-eq}
 use Rattle.waiting.specs.Waiting.{Until, refused, accepted, Tries, atOnce, stopsLogging, stopsCleaning, again}
 
 itself : Refines promised

@@ -9,7 +9,6 @@ use Rattle.promises.specs.Sound.{sound}
 use Rattle.promises.proofs.Soundness.{Sound, sound-of}
 use Rattle.logging.proofs.Decision.{by-tests}
 use native.Mathlib.Omega.{arith}
-use borrow.Author.Needs.{needs}
 use Rattle.logging.proofs.log_refusal.Statement.{statement}
 use Rattle.logging.proofs.log_refusal.Tie as tie
 

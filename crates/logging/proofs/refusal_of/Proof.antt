@@ -1,7 +1,6 @@
 -- `logging::refusal_of` meets its contract.
 -- Assumes nothing.
 use mathlib.Core.Path.{sym}
-use borrow.Author.Needs.{needs}
 use Rattle.logging.proofs.refusal_of.Statement.{statement}
 use Rattle.logging.proofs.refusal_of.Tie as tie
 

@@ -7,8 +7,7 @@ use mathlib.Core.Bool.{Bool, true, false, cond, and-false}
 use mathlib.Core.List.{List, [], _∷_}
 use lib.ListN.{length, getD}
 use lib.Dec.{eqb}
-use Rattle.area.proofs.Parts.{either}
-use Rattle.block.proofs.Tests.{by-cases}
+use Rattle.area.proofs.Laws.{by-cases, either}
 use Rattle.promises.specs.Blocks.{LogBlock, Slot, unused, damaged, valid}
 use Rattle.promises.specs.Newest.{sequenceIn, newest, keepIn, keepOf, Gathered, missing, blocks, blockIn, gather, isUnused, allUnused, isDamaged, endDamaged, endTested, gathered}
 use Rattle.promises.proofs.Gathered.{unused-newest, gathered-fresh, gathered-damaged, gathered-from, end-missing}

@@ -9,7 +9,7 @@ use mathlib.Core.List.{List, [], _∷_, _++_}
 use lib.ListN.{length, getD, drop, length-append, length-set, List·getD-append}
 use lib.Seq.{getD-set-same, getD-set-other, getD-append-seam, drop-cons, drop-length}
 use borrow.Author.Tests.{eq-eqb}
-use Rattle.area.proofs.Parts.{either}
+use Rattle.area.proofs.Laws.{either}
 use Rattle.promises.specs.Blocks.{LogBlock, noBlock, Slot, unused, damaged, valid}
 use Rattle.promises.proofs.History.Stored.{store}
 use Rattle.promises.specs.Newest.{sequenceIn, newest, blocks, gather, keepIn, keepOf, allUnused, isDamaged, endTested, gathered}

@@ -1,6 +1,6 @@
 -- `recovery::slot_after` meets its contract: the slots go round.
 -- Assumes nothing.
-use Prim.Native.Nat.{ℕ, _+_, _<_, _%_}
+use Prim.Native.Nat.{ℕ, _+_}
 use mathlib.Core.Path.{_≡_, sym, ap, _∙_}
 use native.Mathlib.Omega.{arith}
 use borrow.Author.Needs.{needs}

@@ -1,7 +1,6 @@
 -- `replay` is safe and ends: the turns that are left fall. The loop's invariant: the areas keep their lengths.
 -- Assumes nothing.
 use mathlib.Core.Path.{_≡_, refl}
-use Prim.Native.Nat.{_<_}
 use native.Mathlib.Omega.{arith}
 use lib.ListN.{length}
 use borrow.Author.Needs.{needs}

@@ -6,7 +6,7 @@ use Prim.Native.Nat.{_+_, _-_}
 use lib.Dec.{leb}
 use lib.ListN.{length, length-take}
 use borrow.Author.Tests.{not-true, not-false}
-use Rattle.block.proofs.Tests.{never-both}
+use Rattle.area.proofs.Laws.{never-both}
 use Rattle.promises.specs.declared.State.{State}
 use Rattle.promises.specs.Contents.{groupsOf}
 use Rattle.promises.specs.Sound.{sizesLegal, ofOldest, sound}

@@ -1,6 +1,6 @@
 -- `format` meets its contract.
 -- Assumes nothing.
-use mathlib.Core.Path.{refl, sym, _∙_}
+use mathlib.Core.Path.{sym, _∙_}
 use Rattle.promises.specs.Answers.{done}
 use Rattle.promises.proofs.Replies.{replied-accepted}
 use Rattle.queueing.proofs.Refusals.{format-refused}

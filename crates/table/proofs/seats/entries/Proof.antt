@@ -1,7 +1,6 @@
 -- `table::seats::entries` meets its contract: the seats from index i on are left to set.
 -- Assumes nothing.
-use mathlib.Core.Path.{_≡_, sym, subst}
-use mathlib.Core.List.{List}
+use mathlib.Core.Path.{sym, subst}
 use Prim.Native.Nat.{_+_, _≤_, _-_}
 use lib.ListN.{length, set}
 use Rattle.promises.specs.declared.Dirty.{Dirty}
