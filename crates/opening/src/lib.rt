@@ -166,20 +166,6 @@ fn idle(
     }
 }
 
-// The refusal of a walk's number.
-fn refusal_of(number: u64) -> Refusal
-    requires { ⌜ (7 ≤ number) × (number ≤ 9) ⌝ }
-    ensures { λ r. ⌜ numberOf r ≡ number ⌝ }
-{
-    if number == 7 {
-        return Refusal::LogDamaged;
-    }
-    if number == 8 {
-        return Refusal::LogOutOfOrder;
-    }
-    Refusal::TooFewFrames
-}
-
 // A refused Open: the all-zero state.
 fn refused(refusal: Refusal, place: u64) -> OpenOutcome
     ensures { λ r. ⌜ (openAnswered (r .answer) ≡ refuses (numberOf refusal)) × (placeIn (r .answer) ≡ place) × (r .state ≡ allZeroState) ⌝ }
@@ -213,7 +199,7 @@ pub fn open(log: &[u8], home: &[u8], frames: &mut [u8], staging: &[u8]) -> OpenO
     let stage = found.stage;
     clear_refused(frames, stage.refusal);
     if stage.refusal != 0 {
-        return refused(refusal_of(stage.refusal), stage.place);
+        return refused(Refusal::of_number(stage.refusal), stage.place);
     }
     let dirty = table::seats::entries(&seats[..count]);
     let pages = home.len() / Block::PAGE;

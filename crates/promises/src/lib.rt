@@ -2,6 +2,7 @@
 // call promises stands in specs/, one file to a call; demand 3 is proved from these promises alone in proofs/Demand3.antt. No call is
 // written here.
 ghost use mathlib.Core.Path.{_≡_};
+ghost use Prim.Native.Nat.{_≤_};
 ghost use Rattle.promises.specs.Answers.{numberOf};
 ghost use Rattle.promises.specs.States.{allZeroState};
 
@@ -117,6 +118,26 @@ impl Refusal {
             Refusal::TooFewFrames => 9,
             Refusal::NothingToDo => 10,
             Refusal::HeldBack => 11,
+        }
+    }
+
+    // The refusal with a number.
+    pub fn of_number(number: u64) -> Refusal
+        requires { ⌜ (1 ≤ number) × (number ≤ 11) ⌝ }
+        ensures { λ r. ⌜ numberOf r ≡ number ⌝ }
+    {
+        match number {
+            1 => Refusal::WrongLength,
+            2 => Refusal::NotSound,
+            3 => Refusal::OutOfRange,
+            4 => Refusal::WrongMoment,
+            5 => Refusal::Full,
+            6 => Refusal::SequencesUsedUp,
+            7 => Refusal::LogDamaged,
+            8 => Refusal::LogOutOfOrder,
+            9 => Refusal::TooFewFrames,
+            10 => Refusal::NothingToDo,
+            _ => Refusal::HeldBack,
         }
     }
 }

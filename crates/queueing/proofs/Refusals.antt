@@ -61,14 +61,6 @@ pub describe-number : (s : State) (sounds : Bool) (staging page offset count : �
 unfolding describeRefusal
 describe-number s sounds staging page offset count e = rw e
 
--- ---- the refusals' numbers
-
-pub past-five : (n a : ℕ) → a ≤ n → (n ≡ a → ⊥) → (n ≡ a + 1 → ⊥) → (n ≡ a + 2 → ⊥) → (n ≡ a + 3 → ⊥) → (n ≡ a + 4 → ⊥) → a + 5 ≤ n
-past-five n a h p q r s t = omega arith
-
-pub eleven : (n : ℕ) → 11 ≤ n → n ≤ 11 → 11 ≡ n
-eleven n h k = omega arith
-
 -- ---- refused calls
 
 module _ (x : Refusal) (number : ℕ) (is : numberOf x ≡ number) (some : number ≡ 0 → ⊥) where

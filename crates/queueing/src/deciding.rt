@@ -4,7 +4,6 @@ ghost use mathlib.Core.Bool.{true};
 ghost use Prim.Native.Nat.{_+_, _≤_};
 ghost use lib.Dec.{leb};
 ghost use Rattle.block.specs.Sizes.{sequenceEnd};
-ghost use Rattle.promises.specs.Answers.{numberOf};
 ghost use Rattle.promises.specs.Sums.{waitingBlocks};
 ghost use Rattle.promises.specs.Sound.{sound};
 ghost use Rattle.promises.specs.Format.{formatRefusal};
@@ -16,30 +15,9 @@ ghost use Rattle.soundness.specs.Summed.{Summed, Small};
 ghost use Rattle.soundness.specs.Verdicts.{Judges};
 ghost use Rattle.queueing.specs.Queueing.{describeNumber};
 use block::Block;
-use promises::Refusal;
 use promises::State;
 use soundness::Verdict;
 use soundness::sums::Sums;
-
-// The refusal with a number.
-pub fn refusal_of(number: u64) -> Refusal
-    requires { ⌜ (1 ≤ number) × (number ≤ 11) ⌝ }
-    ensures { λ r. ⌜ numberOf r ≡ number ⌝ }
-{
-    match number {
-        1 => Refusal::WrongLength,
-        2 => Refusal::NotSound,
-        3 => Refusal::OutOfRange,
-        4 => Refusal::WrongMoment,
-        5 => Refusal::Full,
-        6 => Refusal::SequencesUsedUp,
-        7 => Refusal::LogDamaged,
-        8 => Refusal::LogOutOfOrder,
-        9 => Refusal::TooFewFrames,
-        10 => Refusal::NothingToDo,
-        _ => Refusal::HeldBack,
-    }
-}
 
 // Format, of the log's length: 1.
 pub fn format_refusal(length: usize) -> u64

@@ -10,6 +10,7 @@ use promises::LogOutcome;
 use promises::Logged;
 use promises::OpenOutcome;
 use promises::Outcome;
+use promises::Refusal;
 use promises::Staged;
 use promises::Standing;
 use promises::State;
@@ -33,7 +34,7 @@ pub fn format(log: &mut [u8]) -> Answer
 {
     let number = deciding::format_refusal(log.len());
     if number != 0 {
-        let refusal = deciding::refusal_of(number);
+        let refusal = Refusal::of_number(number);
         return Answer::Refused(refusal);
     }
     area::clear(log);
@@ -55,7 +56,7 @@ pub fn begin(state: State, u: usize) -> Outcome
     let verdict = soundness::checked(after);
     let number = deciding::begin_refusal(verdict, after, u);
     if number != 0 {
-        let refusal = deciding::refusal_of(number);
+        let refusal = Refusal::of_number(number);
         return Outcome {
             state: after,
             answer: Answer::Refused(refusal),
@@ -93,7 +94,7 @@ pub fn describe(
         bytes.len(),
     );
     if number != 0 {
-        let refusal = deciding::refusal_of(number);
+        let refusal = Refusal::of_number(number);
         return Outcome {
             state: after,
             answer: Answer::Refused(refusal),
@@ -129,7 +130,7 @@ pub fn end(state: State) -> EndOutcome
     let verdict = soundness::checked(after);
     let number = deciding::end_refusal(verdict.sound, after);
     if number != 0 {
-        let refusal = deciding::refusal_of(number);
+        let refusal = Refusal::of_number(number);
         return EndOutcome {
             state: after,
             answer: Ended::Refused(refusal),
@@ -171,7 +172,7 @@ pub fn log_step(
         staging.len(),
     );
     if number != 0 {
-        let refusal = logging::refusal_of(number);
+        let refusal = Refusal::of_number(number);
         return LogOutcome {
             state: after,
             answer: Logged::Refused(refusal),
@@ -291,7 +292,7 @@ pub fn settled(state: State, ticket: u64) -> Standing
     let verdict = soundness::checked(state);
     let number = deciding::settled_refusal(verdict.sound, state, ticket);
     if number != 0 {
-        let refusal = deciding::refusal_of(number);
+        let refusal = Refusal::of_number(number);
         return Standing::Refused(refusal);
     }
     if ticket <= state.ticket {

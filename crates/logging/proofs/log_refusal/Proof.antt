@@ -19,7 +19,7 @@ returns : tie.Need-returns
 returns c =
     let a = (c .before) .args in (
       by-tests (a .state) (a .log) (a .home) (a .frames) (a .staging) false _ _ (sym (not-true _ (c .if1 .taken)) ∙ (c .before) .pre) refl refl,
-      λ z one two. absurd (two refl),
+      omega arith,
     )
 
 areas-fit-requires : tie.Need-areas-fit-requires
@@ -38,7 +38,7 @@ returns-2 c =
     let a = (c .before .before .before .before) .args in (
       by-tests (a .state) (a .log) (a .home) (a .frames) (a .staging) true false _ (sound-at ((c .before .before .before)))
           (sym (not-true _ (c .if2 .taken)) ∙ ap (λ (x : Bool). x && eqb (a .staging) (a .state .frames * 472)) ((c .before .before) .areas-fit .ensures)) refl,
-      λ z one two. absurd (one refl),
+      omega arith,
     )
 
 returns-3 : tie.Need-returns-3
@@ -47,7 +47,7 @@ returns-3 c =
       by-tests (a .state) (a .log) (a .home) (a .frames) (a .staging) true true true (sound-at ((c .before .before .before .before .before)))
           (sym (not-false _ ((c .before .before) .if2 .left)) ∙ ap (λ (x : Bool). x && eqb (a .staging) (a .state .frames * 472)) ((c .before .before .before .before) .areas-fit .ensures))
           (sym (eq-eqb _ _ (c .if3 .taken))),
-      λ z one two. refl,
+      omega arith,
     )
 
 returns-4 : tie.Need-returns-4
@@ -56,7 +56,7 @@ returns-4 c =
       by-tests (a .state) (a .log) (a .home) (a .frames) (a .staging) true true false (sound-at ((c .before .before .before .before .before)))
           (sym (not-false _ ((c .before .before) .if2 .left)) ∙ ap (λ (x : Bool). x && eqb (a .staging) (a .state .frames * 472)) ((c .before .before .before .before) .areas-fit .ensures))
           (sym (ne-eqb _ _ (c .if3 .left))),
-      λ z one two. absurd (z refl),
+      omega arith,
     )
 
 pub log-refusal-spec : {M : Type 1} → statement M

@@ -57,11 +57,12 @@ read-log-requires c κs =
 clear-refused-requires : tie.Need-clear-refused-requires
 clear-refused-requires c κs = search needs
 
-refusal-of-requires : tie.Need-refusal-of-requires
-refusal-of-requires c κs =
+of-number-requires : tie.Need-of-number-requires
+of-number-requires c κs =
     let a = (c .before .before .before .before .before .before .before .before .before .before .before .before .before .before .before .before .before .before .before) .args in
     let f = (c .before .before .before .before .before .before .before .before .before .before) .read-log in
-    refusal-range (a .log .now) (a .home .now) _ (foundOf (f .result) (f .last .0)) _ _ _ (f .ensures) (c .if2 .taken)
+    let r = refusal-range (a .log .now) (a .home .now) _ (foundOf (f .result) (f .last .0)) _ _ _ (f .ensures) (c .if2 .taken) in
+    (omega arith, omega arith)
 
 refused-requires-2 : tie.Need-refused-requires-2
 refused-requires-2 c κs = search needs
@@ -75,7 +76,7 @@ returns-2 c =
     let fit = holds _ _ ((c .before .before .before .before .before .before .before .before .before .before .before .before .before .before .before .before) .lengths-fit .ensures) ((c .before .before .before .before .before .before .before .before .before .before .before .before .before .before .before) .if1 .left) in
     let f = (c .before .before .before .before .before .before .before .before .before .before .before .before) .read-log in
     let o = c .refused2 .ensures in
-    opens-refused (a .log .now) (a .home .now) (a .frames .now) (a .staging .now) _ _ fit (foundOf (f .result) (f .last .0)) _ (f .ensures) ((c .before .before) .if2 .taken) (o .0 ∙ ap refuses ((c .before) .refusal-of .ensures)) (o .1) (o .2) (f .kept .1 .1 .1 .0)
+    opens-refused (a .log .now) (a .home .now) (a .frames .now) (a .staging .now) _ _ fit (foundOf (f .result) (f .last .0)) _ (f .ensures) ((c .before .before) .if2 .taken) (o .0 ∙ ap refuses ((c .before) .of-number .ensures)) (o .1) (o .2) (f .kept .1 .1 .1 .0)
     ((c .before .before .before .before .before .before) .clear-refused .ensures ∙ ap (λ (b : Bool). cond b ((c .before .before .before .before .before .before .before .before .before .before .before .before) .read-log .last .1 .1 .1 .0) (replicate (length ((c .before .before .before .before .before .before .before .before .before .before .before .before) .read-log .last .1 .1 .1 .0)) 0)) (ne-eqb _ _ ((c .before .before) .if2 .taken)))
 
 array-share-prefix-seats : tie.Need-array-share-prefix-seats
@@ -142,7 +143,7 @@ open-spec =
     slice-aggregate-read-log
     read-log-requires
     clear-refused-requires
-    refusal-of-requires
+    of-number-requires
     refused-requires-2
     same-length
     returns-2

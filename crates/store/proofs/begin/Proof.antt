@@ -13,13 +13,13 @@ checked-requires c κs = search needs
 begin-refusal-requires : tie.Need-begin-refusal-requires
 begin-refusal-requires c κs = c .checked .ensures
 
-refusal-of-requires : tie.Need-refusal-of-requires
-refusal-of-requires c κs = search needs
+of-number-requires : tie.Need-of-number-requires
+of-number-requires c κs = search needs
 
 returns : tie.Need-returns
 returns c =
     let args = (c .before .before .before .before) .args in
-    begin-refused (c .refusal-of .result) ((c .before .before) .begin-refusal .result) (c .refusal-of .ensures) ((c .before) .if1 .taken) (args .state) (args .u) ((c .before .before) .begin-refusal .ensures .0)
+    begin-refused (c .of-number .result) ((c .before .before) .begin-refusal .result) (c .of-number .ensures) ((c .before) .if1 .taken) (args .state) (args .u) ((c .before .before) .begin-refusal .ensures .0)
 
 returns-2 : tie.Need-returns-2
 returns-2 c = begin-met ((c .before .before .before) .args .state) ((c .before .before .before) .args .u) (sym ((c .before) .begin-refusal .ensures .0) ∙ c .if1 .left)
@@ -30,6 +30,6 @@ begin-spec =
     (tie.spec
     checked-requires
     begin-refusal-requires
-    refusal-of-requires
+    of-number-requires
     returns
     returns-2)

@@ -47,13 +47,13 @@ checked-requires c κs = search needs
 describe-refusal-requires : tie.Need-describe-refusal-requires
 describe-refusal-requires c κs = λ t. sound-of ((c .before .before .before) .args .state) (sym (c .checked .ensures .0) ∙ t) .frames .1
 
-refusal-of-requires : tie.Need-refusal-of-requires
-refusal-of-requires c κs = search needs
+of-number-requires : tie.Need-of-number-requires
+of-number-requires c κs = search needs
 
 returns : tie.Need-returns
 returns c =
     let args = (c .before .before .before .before .before .before) .args in
-    describe-refused (c .refusal-of .result) ((c .before .before) .describe-refusal .result) (c .refusal-of .ensures) ((c .before) .if1 .taken) (args .state)
+    describe-refused (c .of-number .result) ((c .before .before) .describe-refusal .result) (c .of-number .ensures) ((c .before) .if1 .taken) (args .state)
     (updateOf (args .page) (args .offset) (now (args .bytes))) (now (args .staging)) (number-at (c .before .before))
 
 add-count : tie.Need-add-count
@@ -109,7 +109,7 @@ describe-spec =
     (tie.spec
     checked-requires
     describe-refusal-requires
-    refusal-of-requires
+    of-number-requires
     returns
     add-count
     free-area-requires

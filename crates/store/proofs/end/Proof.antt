@@ -18,12 +18,12 @@ checked-requires c κs = search needs
 end-refusal-requires : tie.Need-end-refusal-requires
 end-refusal-requires c κs = c .checked .ensures .0
 
-refusal-of-requires : tie.Need-refusal-of-requires
-refusal-of-requires c κs = search needs
+of-number-requires : tie.Need-of-number-requires
+of-number-requires c κs = search needs
 
 returns : tie.Need-returns
 returns c =
-    end-refused (c .refusal-of .result) ((c .before .before) .end-refusal .result) (c .refusal-of .ensures) ((c .before) .if1 .taken) ((c .before .before .before .before) .args .state) ((c .before .before) .end-refusal .ensures .0)
+    end-refused (c .of-number .result) ((c .before .before) .end-refusal .result) (c .of-number .ensures) ((c .before) .if1 .taken) ((c .before .before .before .before) .args .state) ((c .before .before) .end-refusal .ensures .0)
 
 add-ticket : tie.Need-add-ticket
 add-ticket c =
@@ -59,7 +59,7 @@ end-spec =
     (tie.spec
     checked-requires
     end-refusal-requires
-    refusal-of-requires
+    of-number-requires
     returns
     add-ticket
     add-ticket-2

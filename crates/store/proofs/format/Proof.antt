@@ -11,12 +11,12 @@ use Rattle.store.proofs.format.Tie as tie
 format-refusal-requires : tie.Need-format-refusal-requires
 format-refusal-requires c κs = search needs
 
-refusal-of-requires : tie.Need-refusal-of-requires
-refusal-of-requires c κs = search needs
+of-number-requires : tie.Need-of-number-requires
+of-number-requires c κs = search needs
 
 returns : tie.Need-returns
 returns c =
-    format-refused (c .refusal-of .result) (c .before .before .format-refusal .result) (c .refusal-of .ensures) (c .before .if1 .taken) (c .before .before .before .before .args .log .now) (c .before .before .format-refusal .ensures .0)
+    format-refused (c .of-number .result) (c .before .before .format-refusal .result) (c .of-number .ensures) (c .before .if1 .taken) (c .before .before .before .before .args .log .now) (c .before .before .format-refusal .ensures .0)
 
 clear-requires : tie.Need-clear-requires
 clear-requires c κs = search needs
@@ -34,7 +34,7 @@ format-spec =
     tie.close
     (tie.spec
     format-refusal-requires
-    refusal-of-requires
+    of-number-requires
     returns
     clear-requires
     same-length

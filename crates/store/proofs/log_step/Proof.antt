@@ -45,13 +45,13 @@ checked-requires c κs = search needs
 log-refusal-requires : tie.Need-log-refusal-requires
 log-refusal-requires c κs = (c .before) .checked .ensures .0
 
-refusal-of-requires : tie.Need-refusal-of-requires
-refusal-of-requires c κs = (c .before) .log-refusal .ensures .1 (c .if1 .taken)
+of-number-requires : tie.Need-of-number-requires
+of-number-requires c κs = search needs
 
 returns : tie.Need-returns
 returns c =
     let a = (c .before .before .before .before .before .before .before .before .before) .args in
-    log-refused (a .state) (a .log .now) (a .home .now) (a .frames .now) (a .staging .now) _ (c .refusal-of .ensures ∙ (c .before .before) .log-refusal .ensures .0)
+    log-refused (a .state) (a .log .now) (a .home .now) (a .frames .now) (a .staging .now) _ (c .of-number .ensures ∙ (c .before .before) .log-refusal .ensures .0)
 
 sub-keep-from : tie.Need-sub-keep-from
 sub-keep-from c = let h = held-within ((c .before .before .before .before .before .before .before .before .before) .args .state) _ (sums-at (c .before)) in omega arith
@@ -119,7 +119,7 @@ log-step-spec =
     (tie.spec
     checked-requires
     log-refusal-requires
-    refusal-of-requires
+    of-number-requires
     returns
     sub-keep-from
     add-next

@@ -15,13 +15,13 @@ checked-requires c κs = search needs
 settled-refusal-requires : tie.Need-settled-refusal-requires
 settled-refusal-requires c κs = c .checked .ensures .0
 
-refusal-of-requires : tie.Need-refusal-of-requires
-refusal-of-requires c κs = search needs
+of-number-requires : tie.Need-of-number-requires
+of-number-requires c κs = search needs
 
 returns : tie.Need-returns
 returns c =
     let args = (c .before .before .before .before) .args in
-    settled-refused (c .refusal-of .result) ((c .before .before) .settled-refusal .result) (c .refusal-of .ensures) ((c .before) .if1 .taken) (args .state) (args .ticket) ((c .before .before) .settled-refusal .ensures .0)
+    settled-refused (c .of-number .result) ((c .before .before) .settled-refusal .result) (c .of-number .ensures) ((c .before) .if1 .taken) (args .state) (args .ticket) ((c .before .before) .settled-refusal .ensures .0)
 
 returns-2 : tie.Need-returns-2
 returns-2 c =
@@ -39,7 +39,7 @@ settled-spec =
     (tie.spec
     checked-requires
     settled-refusal-requires
-    refusal-of-requires
+    of-number-requires
     returns
     returns-2
     returns-3)

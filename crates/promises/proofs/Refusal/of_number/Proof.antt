@@ -1,11 +1,18 @@
--- `deciding::refusal_of` meets its contract, number by number.
+-- `Refusal::of_number` meets its contract, number by number.
 -- Assumes nothing.
-use Prim.Native.Nat.{_≤_}
-use Rattle.queueing.proofs.Refusals.{past-five, eleven}
+use mathlib.Core.Path.{_≡_}
+use Prim.Native.Nat.{ℕ, _+_, _≤_}
 use borrow.Author.Needs.{needs}
 use native.Mathlib.Omega.{arith}
-use Rattle.queueing.proofs.deciding.refusal_of.Statement.{statement}
-use Rattle.queueing.proofs.deciding.refusal_of.Tie as tie
+use Rattle.promises.proofs.Refusal.of_number.Statement.{statement}
+use Rattle.promises.proofs.Refusal.of_number.Tie as tie
+
+-- a number that is at least a, and none of five from a on
+past-five : (n a : ℕ) → a ≤ n → (n ≡ a → ⊥) → (n ≡ a + 1 → ⊥) → (n ≡ a + 2 → ⊥) → (n ≡ a + 3 → ⊥) → (n ≡ a + 4 → ⊥) → a + 5 ≤ n
+past-five n a h p q r s t = omega arith
+
+eleven : (n : ℕ) → 11 ≤ n → n ≤ 11 → 11 ≡ n
+eleven n h k = omega arith
 
 returns : tie.Need-returns
 returns c = search needs
@@ -44,8 +51,8 @@ returns-11 c =
     let low : 6 ≤ n = past-five n 1 (omega arith) (r .0 .0 .0 .0 .0 .0 .0 .0 .0 .1) (r .0 .0 .0 .0 .0 .0 .0 .0 .1) (r .0 .0 .0 .0 .0 .0 .0 .1) (r .0 .0 .0 .0 .0 .0 .1) (r .0 .0 .0 .0 .0 .1) in
     eleven n (past-five n 6 low (r .0 .0 .0 .0 .1) (r .0 .0 .0 .1) (r .0 .0 .1) (r .0 .1) (r .1)) (c .before .pre .1)
 
-pub refusal-of-spec : {M : Type 1} → statement M
-refusal-of-spec =
+pub of-number-spec : {M : Type 1} → statement M
+of-number-spec =
     tie.close
     (tie.spec
     returns
