@@ -2,7 +2,7 @@
 -- and an accepted one knows what its change needs.
 -- Assumes nothing.
 use mathlib.Core.Path.{_≡_, refl, sym, ap, _∙_}
-use mathlib.Core.Bool.{Bool, true, false, _&&_, and-assoc}
+use mathlib.Core.Bool.{true, false, _&&_, and-assoc}
 use mathlib.Core.List.{List}
 use Prim.Native.Nat.{ℕ, _+_, _*_, _/_, _^_, _≤_, _<_}
 use native.Mathlib.Omega.{arith}
@@ -35,7 +35,6 @@ use Rattle.promises.proofs.Changes.{pick-zero, pick-other, describe-passed, gro
 use Rattle.soundness.specs.declared.sums.Sums.{Sums}
 use Rattle.soundness.specs.Summed.{Summed}
 use Rattle.soundness.proofs.Counts.{reserved-is}
-use Rattle.queueing.specs.Queueing.{describeNumber}
 
 -- ---- the tests
 
@@ -54,12 +53,6 @@ module _ (s : State) (t : Sums) (u : ℕ) (h : Summed s t) where
 
   pub room-law : (leb (t .held + t .waiting + t .dirty + t .queued + 2 * u + 1) (s .slots) && leb (t .dirty + t .queued + u) (s .frames)) ≡ beginHasRoom s u
   room-law = rw (h .held, h .waiting, h .dirty, h .queued)
-
--- Describe decides from the state's numbers
-pub describe-number : (s : State) (sounds : Bool) (staging page offset count : ℕ) → sounds ≡ sound s
-    → describeNumber sounds (s .frames) (s .reserved) (s .pages) (s .described) staging page offset count ≡ describeRefusal s staging page offset count
-unfolding describeRefusal
-describe-number s sounds staging page offset count e = rw e
 
 -- ---- refused calls
 

@@ -1,6 +1,5 @@
 // What each call is refused with, by the paper's number, 0 where it is accepted; tested in the paper's order.
 ghost use mathlib.Core.Path.{_≡_};
-ghost use mathlib.Core.Bool.{true};
 ghost use Prim.Native.Nat.{_+_, _≤_};
 ghost use lib.Dec.{leb};
 ghost use Rattle.block.specs.Sizes.{sequenceEnd};
@@ -8,12 +7,12 @@ ghost use Rattle.promises.specs.Sums.{waitingBlocks};
 ghost use Rattle.promises.specs.Sound.{sound};
 ghost use Rattle.promises.specs.Format.{formatRefusal};
 ghost use Rattle.promises.specs.Begin.{beginInRange, beginHasRoom, beginRefusal};
+ghost use Rattle.promises.specs.Describe.{describeRefusal};
 ghost use Rattle.promises.specs.End.{endRefusal};
 ghost use Rattle.promises.specs.Settled.{settledRefusal};
 ghost use Rattle.promises.specs.Read.{readRefusal};
 ghost use Rattle.soundness.specs.Summed.{Summed, Small};
 ghost use Rattle.soundness.specs.Verdicts.{Judges};
-ghost use Rattle.queueing.specs.Queueing.{describeNumber};
 use block::Block;
 use promises::State;
 use soundness::Verdict;
@@ -82,34 +81,31 @@ pub fn begin_refusal(verdict: Verdict, state: State, u: usize) -> u64
     0
 }
 
-// Describe, of whether the state is sound, of its numbers, and of the lengths of staging and of the bytes: 2; 1; 4; 3; 5.
+// Describe, of whether the state is sound, of staging's length and of an update's place and length: 2; 1; 4; 3; 5.
 pub fn describe_refusal(
-    sound: bool,
-    frames: usize,
-    reserved: usize,
-    pages: usize,
-    described: usize,
+    holds: bool,
+    state: State,
     staging: usize,
     page: usize,
     offset: usize,
     count: usize,
 ) -> u64
-    requires { ⌜ (sound ≡ true → frames ≤ 32) ⌝ }
-    ensures { λ r. ⌜ (r ≡ describeNumber sound frames reserved pages described staging page offset count) × (r ≤ 11) ⌝ }
+    requires { ⌜ holds ≡ sound state ⌝ }
+    ensures { λ r. ⌜ (r ≡ describeRefusal state staging page offset count) × (r ≤ 11) ⌝ }
 {
-    if !sound {
+    if !holds {
         return 2;
     }
-    if staging != frames * Block::NEW_BYTES {
+    if staging != state.frames * Block::NEW_BYTES {
         return 1;
     }
-    if reserved == 0 {
+    if state.reserved == 0 {
         return 4;
     }
-    if !block::legal_place(pages, page, offset, count) {
+    if !block::legal_place(state.pages, page, offset, count) {
         return 3;
     }
-    if described < reserved {
+    if state.described < state.reserved {
         return 0;
     }
     5

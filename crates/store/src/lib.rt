@@ -84,10 +84,7 @@ pub fn describe(
     let verdict = soundness::checked(after);
     let number = deciding::describe_refusal(
         verdict.sound,
-        after.frames,
-        after.reserved,
-        after.pages,
-        after.described,
+        after,
         staging.len(),
         page,
         offset,

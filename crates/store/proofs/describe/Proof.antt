@@ -7,10 +7,9 @@ use denote.Ref.{now}
 use Rattle.promises.specs.Contents.{total, groupsOf}
 use Rattle.promises.specs.Sound.{member, areasOf}
 use Rattle.promises.specs.Describe.{describeRefusal}
-use Rattle.promises.proofs.Soundness.{sound-of}
 use Rattle.soundness.proofs.Scans.{length-mapped}
 use Rattle.queueing.specs.Queueing.{updateOf}
-use Rattle.queueing.proofs.Refusals.{Describable, describable, describe-number, describe-refused}
+use Rattle.queueing.proofs.Refusals.{Describable, describable, describe-refused}
 use Rattle.queueing.proofs.Places.{describe-done}
 use borrow.Author.Needs.{needs}
 use native.Mathlib.Omega.{arith}
@@ -23,16 +22,9 @@ groups-long c = search needs
 staged-long : (c : tie.Start) → length (c .args .state .staged) ≡ 32
 staged-long c = search (needs, length-mapped)
 
--- the number decided is the promise's
-number-at : (c : tie.After-describe-refusal)
-    → let args = (c .before .before .before .before) .args in c .describe-refusal .result ≡ describeRefusal (args .state) (length (now (args .staging))) (args .page) (args .offset) (length (now (args .bytes)))
-number-at c =
-    let args = (c .before .before .before .before) .args in
-    c .describe-refusal .ensures .0 ∙ describe-number (args .state) _ (length (now (args .staging))) (args .page) (args .offset) (length (now (args .bytes))) ((c .before) .checked .ensures .0)
-
 accepted-at : (c : tie.Else1)
     → let args = (c .before .before .before .before .before) .args in describeRefusal (args .state) (length (now (args .staging))) (args .page) (args .offset) (length (now (args .bytes))) ≡ 0
-accepted-at c = sym (number-at (c .before)) ∙ c .if1 .left
+accepted-at c = sym (c .before .describe-refusal .ensures .0) ∙ c .if1 .left
 
 describable-at : (c : tie.Else1)
     → let args = (c .before .before .before .before .before) .args in Describable (args .state) (length (now (args .staging))) (args .page) (args .offset) (length (now (args .bytes)))
@@ -45,7 +37,7 @@ checked-requires : tie.Need-checked-requires
 checked-requires c κs = search needs
 
 describe-refusal-requires : tie.Need-describe-refusal-requires
-describe-refusal-requires c κs = λ t. sound-of ((c .before .before .before) .args .state) (sym (c .checked .ensures .0) ∙ t) .frames .1
+describe-refusal-requires c κs = c .checked .ensures .0
 
 of-number-requires : tie.Need-of-number-requires
 of-number-requires c κs = search needs
@@ -54,7 +46,7 @@ returns : tie.Need-returns
 returns c =
     let args = (c .before .before .before .before .before .before) .args in
     describe-refused (c .of-number .result) ((c .before .before) .describe-refusal .result) (c .of-number .ensures) ((c .before) .if1 .taken) (args .state)
-    (updateOf (args .page) (args .offset) (now (args .bytes))) (now (args .staging)) (number-at (c .before .before))
+    (updateOf (args .page) (args .offset) (now (args .bytes))) (now (args .staging)) ((c .before .before) .describe-refusal .ensures .0)
 
 add-count : tie.Need-add-count
 add-count c = let k = describable-at (c .before .before .before) in omega (arith, queued-at (c .before .before .before))
