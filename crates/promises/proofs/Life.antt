@@ -12,7 +12,6 @@ use Prim.Native.Nat.{ℕ, zero, suc, _-_}
 use mathlib.Core.List.{List, [], _∷_}
 use lib.ListN.{length, getD, set, replicate}
 use Rattle.area.specs.Part.{part, splice}
-use Rattle.block.specs.Slot.{judged, allZero}
 use Rattle.promises.specs.declared.State.{State}
 use Rattle.promises.specs.declared.Dirty.{Dirty}
 use Rattle.promises.specs.declared.Cleaning.{Cleaning}
@@ -24,10 +23,10 @@ use Rattle.promises.specs.declared.Opened.the-variants.{Settled as OpenS
 use Rattle.promises.specs.declared.Standing.the-variants.{Yes}
 use Rattle.promises.specs.Areas.{pageAt}
 use Rattle.promises.specs.Updates.{Update, put}
-use Rattle.promises.specs.Blocks.{clean, stored, slotAt, slotsFrom}
+use Rattle.promises.specs.Blocks.{Slot, clean, stored}
 use Rattle.promises.specs.DirtyPages.{DirtyPage, absent, at, lookUp, shown, apply, applyAll, without, keepFromOf}
 use Rattle.promises.specs.Newest.{newest, allUnused, gathered}
-use Rattle.promises.specs.Walk.{startWith, stands, walkFrom, finding}
+use Rattle.promises.specs.Walk.{startWith, stands, walkFrom, walkGathered, finding}
 use Rattle.promises.specs.Contents.{dirtyFrom, dirtyOf, grouped}
 use Rattle.promises.specs.States.{free, allZeroState, freed, Fills}
 use Rattle.promises.specs.Sums.{firstGroups}
@@ -42,6 +41,7 @@ use Rattle.promises.specs.LogStep.{logRefusal, updateBlock, commitBlock,
 use Rattle.promises.specs.CleanStep.{NoLater, cleanRefusal, cleanStore, CleanStep, CleanSteps}
 use Rattle.promises.specs.Read.{readRefusal, heldIn, Reads}
 use Rattle.promises.specs.Settled.{settledRefusal, Settles}
+use Rattle.promises.proofs.Slots.{blank-from}
 use Rattle.promises.proofs.Promised.{open-accepts, log-updates, log-commits, clean-accepts}
 
 -- a state of the life: next, ticket, the dirty page's first group (0: none), the first staged update's length and the first group's size
@@ -147,11 +147,22 @@ one-filled = record { count = refl; kept = λ f n. absurd (n (ap (λ (d : Dirty)
     zeroes zero e = absurd (omega arith)
     zeroes (suc f) e = zero-free 31 f
 
-open-step : (openFinding log₀ home 2048 944 ≡ stands 1 (startWith 0))
-    × OpenStands 1 (startWith 0) log₀ home frames (record { state = awoken; answer = OpenSettled 0 }) frames
-unfolding openFinding finding gathered allUnused newest slotsFrom slotAt part walkFrom judged allZero keepFromOf sound firstGroups dirtyNumbers dirtyFrom grouped
-open-step =
-    (refl, record { answerIs = refl; framesLong = refl; fills = none-filled; stateIs = refl; staysSound = refl; contentsAre = λ x. refl; dirtyAre = λ p. ap (lookUp p) (none-dirty frames) })
+-- a log of zeros has nothing in it
+fresh : openFinding log₀ home 2048 944 ≡ stands 1 (startWith 0)
+unfolding openFinding finding gathered allUnused newest walkFrom keepFromOf
+fresh = ap (λ (slots : List Slot). walkGathered 8 2 (pageAt home) slots (gathered 8 slots)) (blank-from 8 4 4096 0 8 (omega arith))
+
+open-step : OpenStands 1 (startWith 0) log₀ home frames (record { state = awoken; answer = OpenSettled 0 }) frames
+unfolding sound firstGroups dirtyNumbers dirtyFrom grouped
+open-step = record {
+  answerIs = refl;
+  framesLong = refl;
+  fills = none-filled;
+  stateIs = refl;
+  staysSound = refl;
+  contentsAre = λ x. refl;
+  dirtyAre = λ p. ap (lookUp p) (none-dirty frames);
+}
 
 found-entry : shown (lookUp 0 (entry ∷ [])) (pageAt home 0) ≡ entry .bytes
 unfolding lookUp
@@ -166,7 +177,7 @@ unfolding replied
 format-met = record { answerIs = refl; refused = λ n. absurd (n refl); accepted = λ e. refl }
 
 pub open-met : Opens log₀ home frames staging (record { state = awoken; answer = OpenSettled 0 }) frames
-open-met = open-accepts log₀ home frames staging (record { state = awoken; answer = OpenSettled 0 }) frames 1 (startWith 0) (open-step .0) (open-step .1)
+open-met = open-accepts log₀ home frames staging (record { state = awoken; answer = OpenSettled 0 }) frames 1 (startWith 0) fresh open-step
 
 pub begin-met : Begins awoken 1 (record { state = opened; answer = Done })
 unfolding replied beginRefusal sound firstGroups dirtyNumbers dirtyFrom grouped

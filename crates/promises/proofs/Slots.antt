@@ -183,3 +183,11 @@ pub blank-slots : (N P i : ℕ) → getD (slotsOf N P (replicate (N * 512) 0)) i
 blank-slots N P i = either i N
     (λ h. get-slot N P (replicate (N * 512) 0) i h ∙ blank-slot N P (N * 512) i (omega arith))
     (λ h. no-slot N P (replicate (N * 512) 0) i h)
+
+-- all slots of a log of zeros, from a slot on
+pub blank-from : (N P len slot count : ℕ) → (slot + count) * 512 ≤ len → slotsFrom N P (replicate len 0) slot count ≡ replicate count unused
+unfolding slotsFrom
+blank-from N P len slot zero h = refl
+blank-from N P len slot (suc count) h =
+    ap (λ (x : Slot). x ∷ slotsFrom N P (replicate len 0) (suc slot) count) (blank-slot N P len slot (omega arith))
+    ∙ ap (λ (l : List Slot). unused ∷ l) (blank-from N P len (suc slot) count (omega arith))
