@@ -1,11 +1,8 @@
 // Open: the lent lengths, then the log, judged and walked over, then the answer. It never writes log, home or staging.
 use block::Block;
-use promises::Cleaning;
-use promises::Dirty;
 use promises::OpenOutcome;
 use promises::Opened;
 use promises::Refusal;
-use promises::Staged;
 use promises::State;
 use recovery::Stage;
 ghost use mathlib.Core.Path.{_≡_};
@@ -18,7 +15,7 @@ ghost use Rattle.promises.specs.Areas.{slotsIn, pagesIn, framesIn, pageAt};
 ghost use Rattle.promises.specs.Answers.{refuses, numberOf, openAnswered, placeIn};
 ghost use Rattle.promises.specs.States.{allZeroState};
 ghost use Rattle.promises.specs.Walk.{walkFrom, startWith, finding};
-ghost use Rattle.promises.specs.Open.{lengthsFit, Opens, openedState};
+ghost use Rattle.promises.specs.Open.{lengthsFit, Opens};
 ghost use Rattle.recovery.specs.Log.{blocksFrom, Legal};
 ghost use Rattle.opening.specs.Findings.{stageStart, foundStopped, foundOf, Finds};
 
@@ -133,46 +130,12 @@ fn read_log(seats: &mut [u64], log: &[u8], home: &[u8], frames: &mut [u8]) -> Fo
     find(seats, log, home, frames, &mut sequences[..slots])
 }
 
-// A state with nothing queued, nothing open and no cleaning.
-fn idle(
-    pages: usize,
-    slots: usize,
-    frames: usize,
-    next: u64,
-    ticket: u64,
-    dirty: [Dirty; 32],
-) -> State
-    ensures { λ r. ⌜ r ≡ openedState pages slots frames next ticket dirty ⌝ }
-{
-    State {
-        pages,
-        slots,
-        frames,
-        next,
-        ticket,
-        dirty,
-        staged: [Staged {
-            page: 0,
-            offset: 0,
-            length: 0,
-            area: 0,
-        }; 32],
-        groups: [0; 32],
-        queued: 0,
-        stored: 0,
-        reserved: 0,
-        described: 0,
-        cleaning: Cleaning::Idle,
-    }
-}
-
 // A refused Open: the all-zero state.
 fn refused(refusal: Refusal, place: u64) -> OpenOutcome
     ensures { λ r. ⌜ (openAnswered (r .answer) ≡ refuses (numberOf refusal)) × (placeIn (r .answer) ≡ place) × (r .state ≡ allZeroState) ⌝ }
 {
-    let none = [Dirty { page: 0, first: 0 }; 32];
     OpenOutcome {
-        state: idle(0, 0, 0, 0, 0, none),
+        state: State::all_zero(),
         answer: Opened::Refused(refusal, place),
     }
 }
@@ -205,7 +168,7 @@ pub fn open(log: &[u8], home: &[u8], frames: &mut [u8], staging: &[u8]) -> OpenO
     let pages = home.len() / Block::PAGE;
     let slots = log.len() / Block::SIZE;
     OpenOutcome {
-        state: idle(pages, slots, count, found.newest + 1, stage.ticket, dirty),
+        state: State::idle(pages, slots, count, found.newest + 1, stage.ticket, dirty),
         answer: Opened::Settled(stage.ticket),
     }
 }

@@ -5,6 +5,7 @@ ghost use mathlib.Core.Path.{_≡_};
 ghost use Prim.Native.Nat.{_≤_};
 ghost use Rattle.promises.specs.Answers.{numberOf};
 ghost use Rattle.promises.specs.States.{allZeroState};
+ghost use Rattle.promises.specs.Open.{openedState};
 
 // What a frame holds: a dirty page and its first group. First group 0: the frame is free.
 pub struct Dirty {
@@ -56,33 +57,45 @@ pub struct State {
 }
 
 impl State {
-    // The all-zero state.
-    pub fn all_zero() -> State
-        ensures { λ r. ⌜ r ≡ allZeroState ⌝ }
+    // A state with nothing queued, nothing open and no cleaning.
+    pub fn idle(
+        pages: usize,
+        slots: usize,
+        frames: usize,
+        next: u64,
+        ticket: u64,
+        dirty: [Dirty; 32],
+    ) -> State
+        ensures { λ r. ⌜ r ≡ openedState pages slots frames next ticket dirty ⌝ }
     {
-        let dirty = [Dirty { page: 0, first: 0 }; 32];
-        let staged = [Staged {
-            page: 0,
-            offset: 0,
-            length: 0,
-            area: 0,
-        }; 32];
-        let groups = [0u8; 32];
         State {
-            pages: 0,
-            slots: 0,
-            frames: 0,
-            next: 0,
-            ticket: 0,
+            pages,
+            slots,
+            frames,
+            next,
+            ticket,
             dirty,
-            staged,
-            groups,
+            staged: [Staged {
+                page: 0,
+                offset: 0,
+                length: 0,
+                area: 0,
+            }; 32],
+            groups: [0; 32],
             queued: 0,
             stored: 0,
             reserved: 0,
             described: 0,
             cleaning: Cleaning::Idle,
         }
+    }
+
+    // The all-zero state.
+    pub fn all_zero() -> State
+        ensures { λ r. ⌜ r ≡ allZeroState ⌝ }
+    {
+        let none = [Dirty { page: 0, first: 0 }; 32];
+        State::idle(0, 0, 0, 0, 0, none)
     }
 }
 
