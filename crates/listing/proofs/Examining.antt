@@ -8,7 +8,7 @@ use native.Mathlib.Omega.{arith}
 use native.Mathlib.Nat.{mod-lt}
 use lib.ListN.{length, getD}
 use borrow.Author.Tests.{eq-eqb, ne-eqb, le-leb}
-use Rattle.area.proofs.Laws.{and2}
+use Rattle.area.proofs.Laws.{and2, either}
 use Rattle.block.specs.Kind.{fieldsOf}
 use Rattle.block.specs.Legal.{legal, slotOf}
 use Rattle.block.specs.declared.Block.{Block}
@@ -140,7 +140,7 @@ module _ (log : List ℕ) (n : ℕ) (long : length log ≡ n * 512) (least : 8 �
           (facts (slotsIn (length log)) 4096 (headerOf log (scan .newest)) (l .0), l .1)
         where
           above : (m : ℕ) → (m ≡ 0 → ⊥) → 1 ≤ m
-          above m z = Rattle.area.proofs.Parts.either m 1 (λ h. absurd (z (omega arith))) (λ h. h)
+          above m z = either m 1 (λ h. absurd (z (omega arith))) (λ h. h)
 
       pub keep-range : (1 ≤ keep) × (keep ≤ scan .newest) × (scan .newest < 2 ^ 48) × (scan .newest + 1 - keep ≤ 128)
       keep-range =
