@@ -3,11 +3,11 @@
 -- Assumes nothing.
 use mathlib.Core.Path.{_≡_, refl, sym, ap, _∙_}
 use mathlib.Core.List.{List, [], _∷_, _++_, append-assoc}
-use Prim.Native.Nat.{ℕ, zero, suc, _+_, _-_, _*_, _≤_, _<_}
+use Prim.Native.Nat.{ℕ, zero, suc, _+_, _-_, _*_, _≤_}
 use native.Mathlib.Omega.{arith}
 use native.Mathlib.Nat.{add-sub-cancel-left, mul-le-mul-right}
-use lib.ListN.{length, take, drop, getD, replicate, length-append, length-take, length-drop, take-append-drop}
-use lib.Seq.{take-at, drop-at, take-all, take-take, length-take-le, drop-drop, drop-append-le, take-append-le, take-add, getD-take, getD-drop}
+use lib.ListN.{length, take, drop, replicate, length-append, length-take, length-drop, take-append-drop}
+use lib.Seq.{take-at, drop-at, take-all, take-take, length-take-le, drop-drop, drop-append-le, take-append-le, take-add}
 use borrow.Rule.Slice.PartMut.{putMid}
 use Rattle.area.proofs.Laws.{either}
 use Rattle.area.specs.Part.{part, splice}
@@ -38,10 +38,6 @@ length-part list start count h = simp (length-take, length-drop) (omega arith)
 pub length-part-most : (list : List ℕ) (start count : ℕ) → length (part list start count) ≤ count
 unfolding part
 length-part-most list start count = omega (arith, length-take count (drop start list))
-
-pub getD-part : (list : List ℕ) (start count i : ℕ) → i < count → getD (part list start count) i 0 ≡ getD list (start + i) 0
-unfolding part
-getD-part list start count i h = getD-take count (drop start list) i 0 h ∙ getD-drop start list i 0
 
 pub part-all : (list : List ℕ) (count : ℕ) → length list ≤ count → part list 0 count ≡ list
 unfolding part
@@ -123,12 +119,6 @@ module _ (list : List ℕ) (start count : ℕ) (others : List ℕ) (fits : start
       ∙ ap (drop (start′ - (start + count))) drop-end
       ∙ drop-drop (start′ - (start + count)) (start + count) list
       ∙ ap (λ (i : ℕ). drop i list) (sym e))
-
--- a part spliced with itself
-pub splice-own : (list : List ℕ) (start count : ℕ) → splice list start count (part list start count) ≡ list
-unfolding splice part
-splice-own list start count =
-    ap (λ (l : List ℕ). take start list ++ l) (take-append-drop count (drop start list)) ∙ take-append-drop start list
 
 -- the front of a splice, up to its end
 take-end : (list : List ℕ) (start count : ℕ) (others : List ℕ) → start + count ≤ length list → length others ≡ count

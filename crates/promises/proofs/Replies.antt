@@ -32,9 +32,6 @@ module _ (a r : Reply) (n : ℕ) (e : a ≡ replied n r) where
   pub refused-not : (n ≡ 0 → ⊥) → accepts a ≡ false
   refused-not h = ap accepts (refused-by h)
 
-  pub accepted-accepts : n ≡ 0 → accepts r ≡ true → accepts a ≡ true
-  accepted-accepts h t = ap accepts (accepted-by h) ∙ t
-
   pub number-by : numberIn r ≡ 0 → numberIn a ≡ n
   number-by z = by-eq n 0 (λ h. ap numberIn (accepted-by h) ∙ z ∙ sym h) (λ h. ap numberIn (refused-by h))
 
