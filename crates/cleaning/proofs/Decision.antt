@@ -1,14 +1,13 @@
 -- Clean step's refusal, test by test, and what an accepted Clean step leans on.
 -- Assumes nothing.
-use mathlib.Core.Path.{_≡_, refl, ap, _∙_}
-use mathlib.Core.Bool.{Bool, true, false, cond}
+use mathlib.Core.Path.{_≡_, ap, _∙_}
+use mathlib.Core.Bool.{Bool, true, cond}
 use Prim.Native.Nat.{ℕ, _^_}
 use native.Mathlib.Omega.{arith}
 use lib.Dec.{eqb}
 use borrow.Author.Tests.{eqb-true, eqb-false}
 use Rattle.promises.specs.declared.State.{State}
-use Rattle.promises.specs.declared.Cleaning.{Cleaning}
-use Rattle.promises.specs.declared.Cleaning.the-variants.{Idle, First, Second, Third}
+use Rattle.promises.specs.declared.Cleaning.the-variants.{Third}
 use Rattle.promises.specs.Sums.{dirtyCount, sequencesTaken}
 use Rattle.promises.specs.Sound.{sound}
 use Rattle.promises.specs.LogStep.{areasFit}
@@ -26,37 +25,7 @@ block-passed s page e =
     let b = pick-other (eqb (sequencesTaken s) (2 ^ 48)) 0 6 (omega arith) (a .1) in
     (eqb-true _ _ (a .0), eqb-false _ _ (b .0))
 
--- every number but those of the other refusals is 11
-third-number : (s : State) (c : Cleaning) → (thirdRefusal s c ≡ 0 → ⊥) → (thirdRefusal s c ≡ 6 → ⊥) → thirdRefusal s c ≡ 11
-third-number s Idle z u = absurd (z refl)
-third-number s (First page) z u = absurd (z refl)
-third-number s (Second page) z u = absurd (z refl)
-third-number s (Third page) z u = go (eqb (s .stored) 0) (eqb (sequencesTaken s) (2 ^ 48)) z u
-  where
-    of : Bool → Bool → ℕ
-    of a b = cond a (cond b 6 0) 11
-
-    go : (a b : Bool) → (of a b ≡ 0 → ⊥) → (of a b ≡ 6 → ⊥) → of a b ≡ 11
-    go true true z u = absurd (u refl)
-    go true false z u = absurd (z refl)
-    go false b z u = refl
-
 module _ (s : State) (log home frames : ℕ) where
-  pub other-number : (cleanRefusal s log home frames ≡ 0 → ⊥) → (cleanRefusal s log home frames ≡ 1 → ⊥) → (cleanRefusal s log home frames ≡ 2 → ⊥)
-      → (cleanRefusal s log home frames ≡ 6 → ⊥) → (cleanRefusal s log home frames ≡ 10 → ⊥) → cleanRefusal s log home frames ≡ 11
-  unfolding cleanRefusal
-  other-number = go (sound s) (areasFit s log home frames) (eqb (dirtyCount s) 0) (thirdRefusal s (s .cleaning)) (third-number s (s .cleaning))
-    where
-      of : Bool → Bool → Bool → ℕ → ℕ
-      of a b c third = cond a (cond b (cond c 10 third) 1) 2
-
-      go : (a b c : Bool) (third : ℕ) → ((third ≡ 0 → ⊥) → (third ≡ 6 → ⊥) → third ≡ 11)
-          → (of a b c third ≡ 0 → ⊥) → (of a b c third ≡ 1 → ⊥) → (of a b c third ≡ 2 → ⊥) → (of a b c third ≡ 6 → ⊥) → (of a b c third ≡ 10 → ⊥) → of a b c third ≡ 11
-      go true true true third h n0 n1 n2 n6 n10 = absurd (n10 refl)
-      go true true false third h n0 n1 n2 n6 n10 = h n0 n6
-      go true false c third h n0 n1 n2 n6 n10 = absurd (n1 refl)
-      go false b c third h n0 n1 n2 n6 n10 = absurd (n2 refl)
-
   -- the tests make the refusal
   pub by-tests : (a b c : Bool) (third : ℕ) → a ≡ sound s → b ≡ areasFit s log home frames → c ≡ eqb (dirtyCount s) 0 → third ≡ thirdRefusal s (s .cleaning)
       → cond a (cond b (cond c 10 third) 1) 2 ≡ cleanRefusal s log home frames

@@ -5,10 +5,11 @@ use mathlib.Core.Bool.{true}
 use mathlib.Core.List.{List, []}
 use Prim.Native.Nat.{ℕ, _*_, _^_, _≤_, _<_}
 use native.Mathlib.Omega.{arith}
-use lib.ListN.{length, getD}
+use lib.ListN.{length, getD, set}
 use borrow.Author.Tests.{eq-eqb, ne-eqb}
 use Rattle.block.proofs.Tests.{tests}
 use Rattle.promises.specs.declared.State.{State}
+use Rattle.promises.specs.declared.Dirty.{Dirty}
 use Rattle.promises.specs.declared.Cleaning.{Cleaning}
 use Rattle.promises.specs.declared.Cleaning.the-variants.{Idle, First, Second, Third}
 use Rattle.promises.specs.Areas.{pageAt, firstHalf, secondHalf, withFirstHalf, withSecondHalf}
@@ -18,10 +19,7 @@ use Rattle.promises.specs.Contents.{contentsOf, dirtyOf}
 use Rattle.promises.specs.States.{free, isOf, setCleaning}
 use Rattle.promises.specs.Sums.{dirtyCount, sequencesTaken}
 use Rattle.promises.specs.Sound.{sound, names, member, dirtyNumbers}
-use Rattle.promises.specs.declared.Answer.{Answer}
-use Rattle.promises.specs.declared.Answer.the-variants.{Refused, Done}
-use Rattle.promises.specs.Answers.{refuses, done, numberIn, replied, answered}
-use Rattle.promises.specs.CleanStep.{NoLater, Takes, cleanStore, thirdRefusal, cleanRefusalOf, CleanStep, CleanSteps}
+use Rattle.promises.specs.CleanStep.{NoLater, Takes, cleanStore, thirdRefusal, cleanRefusalOf, CleanSteps}
 use Rattle.promises.proofs.Soundness.{Sound, sound-of, of-sound}
 use Rattle.promises.proofs.Changes.{sound-cleaning}
 use Rattle.promises.proofs.Promised.{clean-accepts}
@@ -30,13 +28,10 @@ use Rattle.table.proofs.Entries.{freed-is}
 use Rattle.table.proofs.Holding.{held-keep, sound-holds}
 use Rattle.stepping.specs.Tables.{tableWith, tableOf}
 use Rattle.stepping.proofs.Held.{held-named}
-use Rattle.promises.proofs.Replies.{replied-refused, replied-accepted}
-use Rattle.stepping.proofs.Refused.{numbered}
-use Rattle.cleaning.specs.declared.Change.{Change}
-use Rattle.cleaning.specs.Cleans.{entryAt, rankIn, namedIn, TakesFrame, Named, Chosen, Fitting, changed, cleanDone, Cleaned, doneWith, Changes}
+use Rattle.cleaning.specs.Cleans.{entryAt, rankIn, namedIn, storesMade, TakesFrame, Named, Chosen, Fitting, cleanedLog, cleanDone, doneWith}
 use Rattle.cleaning.proofs.Decision.{Accepted, accepted, block-passed}
 use Rattle.cleaning.proofs.Choosing.{rank-zero, rank-named, dirty-at, first-used, rank-order, named-here, pages-small, frames-below, look-frame, look-all}
-use Rattle.cleaning.proofs.Storing.{sound-clean}
+use Rattle.cleaning.proofs.Storing.{drops-page, sound-clean}
 
 -- ---- the frame that is cleaned
 
@@ -99,9 +94,10 @@ module _ (s : State) (log home frames : List ℕ) (accepts : cleanRefusalOf s lo
   page-found : lookUp page pages ≡ at entry
   page-found = look-frame s facts frames frame (omega (arith, chosen .below, facts .frames .1)) (chosen .used)
 
-  pub fitting : Fitting s (length home) (length frames) frame
-  fitting =
+  pub fitting : (held : Dirty) → held ≡ entryAt s frame → Fitting (length home) (length frames) (held .page) frame
+  fitting held same =
       let g = simp tests at (tests-passed .fit) in
+      let e = ap (λ (d : Dirty). d .page) same in
       let p = pages-small s facts frame (chosen .used) in
       let l = chosen .below in
       let few = facts .frames .1 in
@@ -141,87 +137,86 @@ module _ (s : State) (log home frames : List ℕ) (accepts : cleanRefusalOf s lo
   page-named : member page (dirtyNumbers (s .dirty)) ≡ true
   page-named = held-named (tableOf s) frames pages (sound-holds s frames (tests-passed .isSound)) page entry page-found
 
-  half-sound : (c : Cleaning) (r : State) → names c (dirtyNumbers (s .dirty)) ≡ true → r ≡ setCleaning s c → sound r ≡ true
-  half-sound c r n e = of-sound r (subst Sound (sym e) (sound-cleaning s c facts n))
+  -- a half's store leaves the state but for the cleaning
+  half-steps : (c after : Cleaning) (home′ : List ℕ) → s .cleaning ≡ c → names after (dirtyNumbers (s .dirty)) ≡ true
+      → log ≡ cleanStore c s log home pages (contentsOf s []) page entry .log → home′ ≡ cleanStore c s log home pages (contentsOf s []) page entry .home
+      → setCleaning s after ≡ cleanStore c s log home pages (contentsOf s []) page entry .state
+      → ((staging : List ℕ) → contentsOf (setCleaning s after) staging ≡ cleanStore c s log home pages (contentsOf s staging) page entry .contents)
+      → ((other : ℕ) → lookUp other (dirtyOf s frames) ≡ lookUp other (cleanStore c s log home pages (contentsOf s []) page entry .dirtyPages))
+      → CleanSteps s log home frames (doneWith (setCleaning s after)) log home′
+  half-steps c after home′ e n l h t k d =
+      step-by c (setCleaning s after) log home′ e (of-sound (setCleaning s after) (sound-cleaning s after facts n)) l h t k d
 
-  module _ (r : State) (home′ : List ℕ) where
-    pub idle-steps : s .cleaning ≡ Idle → r ≡ setCleaning s (Second page) → home′ ≡ withFirstHalf home page (firstHalf (pageAt frames frame))
-        → CleanSteps s log home frames (doneWith r) log home′
-    unfolding cleanStore
-    idle-steps e t h =
-        step-by Idle r log home′ e (half-sound (Second page) r page-named t) refl h t (λ staging. ap (λ (x : State). contentsOf x staging) t)
-        (λ other. ap (λ (x : State). lookUp other (dirtyOf x frames)) t)
+  -- the first half is stored
+  pub first-made : (storesMade (s .cleaning) ≡ 2 → ⊥) → (storesMade (s .cleaning) ≡ 1 → ⊥) → (held : Dirty) → held ≡ entryAt s frame
+      → (r : State) (home′ : List ℕ) → r ≡ setCleaning s (Second (held .page)) → home′ ≡ withFirstHalf home (held .page) (firstHalf (pageAt frames frame))
+      → CleanSteps s log home frames (doneWith r) log home′
+  unfolding cleanStore
+  first-made two one held same r home′ t h =
+      subst (λ (x : State). CleanSteps s log home frames (doneWith x) log home′) (sym (t ∙ ap (λ (d : Dirty). setCleaning s (Second (d .page))) same))
+      (go (s .cleaning) refl two one (h ∙ ap (λ (d : Dirty). withFirstHalf home (d .page) (firstHalf (pageAt frames frame))) same))
+    where
+      go : (c : Cleaning) → s .cleaning ≡ c → (storesMade c ≡ 2 → ⊥) → (storesMade c ≡ 1 → ⊥) → home′ ≡ withFirstHalf home page (firstHalf (pageAt frames frame))
+          → CleanSteps s log home frames (doneWith (setCleaning s (Second page))) log home′
+      go Idle e two one h = half-steps Idle (Second page) home′ e page-named refl h refl (λ staging. refl) (λ other. refl)
+      go (First named) e two one h = half-steps (First named) (Second page) home′ e page-named refl h refl (λ staging. refl) (λ other. refl)
+      go (Second named) e two one h = absurd (one refl)
+      go (Third named) e two one h = absurd (two refl)
 
-    pub first-steps : (named : ℕ) → s .cleaning ≡ First named → r ≡ setCleaning s (Second page) → home′ ≡ withFirstHalf home page (firstHalf (pageAt frames frame))
-        → CleanSteps s log home frames (doneWith r) log home′
-    unfolding cleanStore
-    first-steps named e t h =
-        step-by (First named) r log home′ e (half-sound (Second page) r page-named t) refl h t (λ staging. ap (λ (x : State). contentsOf x staging) t)
-        (λ other. ap (λ (x : State). lookUp other (dirtyOf x frames)) t)
-
-    pub second-steps : (named : ℕ) → s .cleaning ≡ Second named → r ≡ setCleaning s (Third page) → home′ ≡ withSecondHalf home page (secondHalf (pageAt frames frame))
-        → CleanSteps s log home frames (doneWith r) log home′
-    unfolding cleanStore
-    second-steps named e t h =
-        step-by (Second named) r log home′ e (half-sound (Third page) r page-named t) refl h t (λ staging. ap (λ (x : State). contentsOf x staging) t)
-        (λ other. ap (λ (x : State). lookUp other (dirtyOf x frames)) t)
+  -- the second half is stored
+  pub second-made : storesMade (s .cleaning) ≡ 1 → (held : Dirty) → held ≡ entryAt s frame
+      → (r : State) (home′ : List ℕ) → r ≡ setCleaning s (Third (held .page)) → home′ ≡ withSecondHalf home (held .page) (secondHalf (pageAt frames frame))
+      → CleanSteps s log home frames (doneWith r) log home′
+  unfolding cleanStore
+  second-made one held same r home′ t h =
+      subst (λ (x : State). CleanSteps s log home frames (doneWith x) log home′) (sym (t ∙ ap (λ (d : Dirty). setCleaning s (Third (d .page))) same))
+      (go (s .cleaning) refl one (h ∙ ap (λ (d : Dirty). withSecondHalf home (d .page) (secondHalf (pageAt frames frame))) same))
+    where
+      go : (c : Cleaning) → s .cleaning ≡ c → storesMade c ≡ 1 → home′ ≡ withSecondHalf home page (secondHalf (pageAt frames frame))
+          → CleanSteps s log home frames (doneWith (setCleaning s (Third page))) log home′
+      go Idle e one h = absurd (omega (arith, one))
+      go (First named) e one h = absurd (omega (arith, one))
+      go (Second named) e one h = half-steps (Second named) (Third page) home′ e page-named refl h refl (λ staging. refl) (λ other. refl)
+      go (Third named) e one h = absurd (omega (arith, one))
 
   -- the sequence of a clean block that is accepted
-  third-passed : (named : ℕ) → s .cleaning ≡ Third named → (s .stored ≡ 0) × (sequencesTaken s ≡ 2 ^ 48 → ⊥)
-  third-passed named e = block-passed s named (ap (thirdRefusal s) (sym e) ∙ tests-passed .third)
+  third-passed : storesMade (s .cleaning) ≡ 2 → (s .stored ≡ 0) × (sequencesTaken s ≡ 2 ^ 48 → ⊥)
+  third-passed two = go (s .cleaning) two (tests-passed .third)
+    where
+      go : (c : Cleaning) → storesMade c ≡ 2 → thirdRefusal s c ≡ 0 → (s .stored ≡ 0) × (sequencesTaken s ≡ 2 ^ 48 → ⊥)
+      go Idle two z = absurd (omega (arith, two))
+      go (First named) two z = absurd (omega (arith, two))
+      go (Second named) two z = absurd (omega (arith, two))
+      go (Third named) two z = block-passed s named z
 
   -- what the clean block's store leans on
-  pub third-ready : (named : ℕ) → s .cleaning ≡ Third named
-      → (frame < s .frames) × (s .frames ≤ 32) × (1 ≤ s .slots) × (s .slots ≤ 1024) × (length log ≡ s .slots * 512) × (s .next < 2 ^ 48) × (entryAt s frame .first ≡ 0 → ⊥)
-  third-ready named e =
+  pub third-ready : storesMade (s .cleaning) ≡ 2 → (1 ≤ s .slots) × (s .slots ≤ 1024) × (length log ≡ s .slots * 512) × (s .next < 2 ^ 48)
+  third-ready two =
       let g = simp tests at (tests-passed .fit) in
-      let n : sequencesTaken s ≡ 2 ^ 48 → ⊥ = third-passed named e .1 in
-      let few = facts .frames .1 in
-      (chosen .below, few, omega (arith, facts .slots .0), facts .slots .1, omega arith, omega (arith, facts .sequenceSum, n), chosen .used)
+      let n : sequencesTaken s ≡ 2 ^ 48 → ⊥ = third-passed two .1 in
+      (omega (arith, facts .slots .0), facts .slots .1, omega arith, omega (arith, facts .sequenceSum, n))
 
   page-of : isOf page (getD (s .dirty) frame free) ≡ true
   page-of = rw (ne-eqb _ _ (chosen .used), eq-eqb page page refl)
 
-  pub third-steps : (named : ℕ) (r : State) (log′ : List ℕ) → s .cleaning ≡ Third named → Cleaned s log frame r log′ → CleanSteps s log home frames (doneWith r) log′ home
+  -- the clean block is stored, and the frame is free
+  pub block-made : storesMade (s .cleaning) ≡ 2 → (r : State) (log′ : List ℕ) → r ≡ cleanDone s (set (s .dirty) frame free) → log′ ≡ cleanedLog s log frame
+      → CleanSteps s log home frames (doneWith r) log′ home
   unfolding cleanStore
-  third-steps named r log′ e m =
-      let p = third-passed named e in
-      let held : Holds (tableWith s (r .dirty)) frames (without page pages) = m .holds frames pages (sound-holds s frames (tests-passed .isSound)) in
-      step-by (Third named) r log′ home e
-      (of-sound r (subst Sound (sym (m .stateIs)) (sound-clean s frames page entry (r .dirty) facts (p .0) (p .1) page-found held)))
-      (m .logIs ∙ ap (λ (n : ℕ). stored (s .slots) log (s .next) (record { kind = clean page; keepFrom = n; ticket = s .ticket })) (held-keep (tableWith s (r .dirty)) frames (without page pages) held (s .next)))
-      refl
-      (m .stateIs ∙ ap (cleanDone s) (m .dirtyIs ∙ freed-is page frame (s .dirty) (facts .distinctPages) page-of))
-      (λ staging. ap (λ (x : State). contentsOf x staging) (m .stateIs)) (held .looks)
+  block-made two r log′ t l = subst (λ (x : State). CleanSteps s log home frames (doneWith x) log′ home) (sym t) (go (s .cleaning) refl two)
+    where
+      held : Holds (tableWith s (set (s .dirty) frame free)) frames (without page pages)
+      held = drops-page s frame (chosen .below) (omega (arith, long, facts .frames .1)) (chosen .used) frames pages (sound-holds s frames (tests-passed .isSound))
 
--- ---- THE WHOLE STEP: the answer with the refusal's number, and the change made to the state
-
-pub answered-by : (s : State) (log home frames : List ℕ) (change : Change) (answer : Answer) (log′ home′ : List ℕ)
-    → numberIn (answered answer) ≡ cleanRefusalOf s log home frames → Changes s log home frames change log′ home′
-    → CleanSteps s log home frames (record { state = changed s change; answer = answer }) log′ home′
-answered-by s log home frames change answer log′ home′ e m = record {
-  answerIs = whole answer e;
-  refused = m .refused;
-  accepted = λ z. as-done (m .accepted z .accepted z);
-}
-  where
-    whole : (a : Answer) → numberIn (answered a) ≡ cleanRefusalOf s log home frames → answered a ≡ replied (cleanRefusalOf s log home frames) done
-    whole (Refused refusal) e =
-        ap refuses e ∙ sym (replied-refused (cleanRefusalOf s log home frames) done (λ z. omega (arith, numbered refusal, e)))
-    whole Done e = sym (replied-accepted (cleanRefusalOf s log home frames) done (sym e))
-
-    -- what the step leaves does not depend on the answer
-    as-done : CleanStep s log home frames (doneWith (changed s change)) log′ home′
-        → CleanStep s log home frames (record { state = changed s change; answer = answer }) log′ home′
-    as-done c = record {
-      page = c .page;
-      entry = c .entry;
-      found = c .found;
-      takes = c .takes;
-      staysSound = c .staysSound;
-      logIs = c .logIs;
-      homeIs = c .homeIs;
-      stateIs = c .stateIs;
-      contentsAre = c .contentsAre;
-      dirtyAre = c .dirtyAre;
-    }
+      go : (c : Cleaning) → s .cleaning ≡ c → storesMade c ≡ 2 → CleanSteps s log home frames (doneWith (cleanDone s (set (s .dirty) frame free))) log′ home
+      go Idle e two = absurd (omega (arith, two))
+      go (First named) e two = absurd (omega (arith, two))
+      go (Second named) e two = absurd (omega (arith, two))
+      go (Third named) e two =
+          let p = third-passed (ap storesMade e) in
+          step-by (Third named) (cleanDone s (set (s .dirty) frame free)) log′ home e
+          (of-sound _ (sound-clean s frames page entry (set (s .dirty) frame free) facts (p .0) (p .1) page-found held))
+          (l ∙ ap (λ (n : ℕ). stored (s .slots) log (s .next) (record { kind = clean page; keepFrom = n; ticket = s .ticket })) (held-keep (tableWith s (set (s .dirty) frame free)) frames (without page pages) held (s .next)))
+          refl
+          (ap (cleanDone s) (freed-is page frame (s .dirty) (facts .distinctPages) page-of))
+          (λ staging. refl) (held .looks)

@@ -7,7 +7,6 @@ use Prim.Native.Nat.{ℕ, _+_, _-_, _*_, _^_, _≤_, _<_}
 use native.Mathlib.Omega.{arith}
 use lib.Dec.{eqb}
 use lib.ListN.{length, set}
-use lib.Seq.{set-getD}
 use borrow.Author.Tests.{eq-eqb, ne-eqb}
 use Rattle.area.specs.Part.{part, splice}
 use Rattle.area.proofs.Parts.{part-part}
@@ -17,9 +16,8 @@ use Rattle.block.specs.Legal.{slotOf}
 use Rattle.block.specs.declared.Block.{Block}
 use Rattle.promises.specs.declared.State.{State}
 use Rattle.promises.specs.declared.Dirty.{Dirty}
-use Rattle.promises.specs.declared.Cleaning.{Cleaning}
 use Rattle.promises.specs.Areas.{pageAt, withSlot, firstHalf, secondHalf, withFirstHalf, withSecondHalf}
-use Rattle.promises.specs.Blocks.{written, stored}
+use Rattle.promises.specs.Blocks.{written}
 use Rattle.promises.specs.DirtyPages.{DirtyPage, at, lookUp, without}
 use Rattle.promises.specs.Contents.{dirtyOf}
 use Rattle.promises.specs.Sums.{firstGroups, halfStarts, groupStart, smallest, sequencesTaken}
@@ -34,13 +32,7 @@ use Rattle.table.proofs.Applying.{drops-of}
 use Rattle.table.proofs.Holding.{held-count, held-keep, Each, Below, each-without, held-below}
 use Rattle.stepping.specs.Tables.{tableWith, tableOf}
 use Rattle.stepping.proofs.Held.{each-below, each-oldest, oldest-each}
-use Rattle.cleaning.specs.Cleans.{entryAt, stateAfter, cleanDone, Cleaned}
-
--- ---- a change that keeps every entry
-
-pub entry-kept : (s : State) (frame : ℕ) (entry : Dirty) → entry ≡ entryAt s frame → (next : ℕ) (c : Cleaning)
-    → stateAfter s (set (s .dirty) frame entry) next c ≡ stateAfter s (s .dirty) next c
-entry-kept s frame entry e next c = ap (λ (ds : List Dirty). stateAfter s ds next c) (ap (set (s .dirty) frame) e ∙ set-getD (s .dirty) frame free)
+use Rattle.cleaning.specs.Cleans.{entryAt, cleanedLog, cleanDone}
 
 -- ---- the halves
 
@@ -60,21 +52,22 @@ module _ (home frames out : List ℕ) (page frame to : ℕ) where
 
 -- ---- the clean block
 
--- of the frame that holds the page
-pub cleaned-by : (s : State) (log log′ none : List ℕ) (frame page keep : ℕ) (block : Block) → page ≡ entryAt s frame .page → frame < s .frames → s .frames ≤ length (s .dirty)
-    → (entryAt s frame .first ≡ 0 → ⊥) → keep ≡ smallest (s .next) (firstGroups (set (s .dirty) frame free)) → block ≡ cleanBlock (s .next) keep page (s .ticket) → none ≡ []
-    → log′ ≡ withSlot log (slotOf (s .slots) (block .sequence)) (layout block none) → Cleaned s log frame (cleanDone s (set (s .dirty) frame free)) log′
+-- in its slot
+pub cleaned-by : (s : State) (log log′ none : List ℕ) (frame page keep : ℕ) (block : Block) → page ≡ entryAt s frame .page
+    → keep ≡ smallest (s .next) (firstGroups (set (s .dirty) frame free)) → block ≡ cleanBlock (s .next) keep page (s .ticket) → none ≡ []
+    → log′ ≡ withSlot log (slotOf (s .slots) (block .sequence)) (layout block none) → log′ ≡ cleanedLog s log frame
 unfolding written
-cleaned-by s log log′ none frame page keep block p below long used k b z l = record {
-  stateIs = refl;
-  dirtyIs = refl;
-  logIs =
-      l ∙ ap (λ (x : Block). withSlot log (slotOf (s .slots) (x .sequence)) (layout x none)) b
-      ∙ ap (λ (x : List ℕ). withSlot log (slotOf (s .slots) (s .next)) (layout (cleanBlock (s .next) keep page (s .ticket)) x)) z
-      ∙ ap (λ (n : ℕ). withSlot log (slotOf (s .slots) (s .next)) (layout (cleanBlock (s .next) n page (s .ticket)) [])) k
-      ∙ ap (λ (n : ℕ). withSlot log (slotOf (s .slots) (s .next)) (layout (cleanBlock (s .next) (smallest (s .next) (firstGroups (set (s .dirty) frame free))) n (s .ticket)) [])) p;
-  holds = drops-of (tableOf s) (entryAt s frame .page) long frame (held (ne-eqb _ _ used)) below .holds;
-}
+cleaned-by s log log′ none frame page keep block p k b z l =
+    l ∙ ap (λ (x : Block). withSlot log (slotOf (s .slots) (x .sequence)) (layout x none)) b
+    ∙ ap (λ (x : List ℕ). withSlot log (slotOf (s .slots) (s .next)) (layout (cleanBlock (s .next) keep page (s .ticket)) x)) z
+    ∙ ap (λ (n : ℕ). withSlot log (slotOf (s .slots) (s .next)) (layout (cleanBlock (s .next) n page (s .ticket)) [])) k
+    ∙ ap (λ (n : ℕ). withSlot log (slotOf (s .slots) (s .next)) (layout (cleanBlock (s .next) (smallest (s .next) (firstGroups (set (s .dirty) frame free))) n (s .ticket)) [])) p
+
+-- the frame is free then: its page is dropped
+pub drops-page : (s : State) (frame : ℕ) → frame < s .frames → s .frames ≤ length (s .dirty) → (entryAt s frame .first ≡ 0 → ⊥)
+    → (frames : List ℕ) (entries : List DirtyPage) → Holds (tableOf s) frames entries
+    → Holds (tableWith s (set (s .dirty) frame free)) frames (without (entryAt s frame .page) entries)
+drops-page s frame below long used = drops-of (tableOf s) (entryAt s frame .page) long frame (held (ne-eqb _ _ used)) below .holds
   where
     held : eqb (entryAt s frame .first) 0 ≡ false → isOf (entryAt s frame .page) (entryAt s frame) ≡ true
     held e = rw e (eq-eqb (entryAt s frame .page) (entryAt s frame .page) refl)

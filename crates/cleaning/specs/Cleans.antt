@@ -1,4 +1,4 @@
--- The parts of Clean step: the frame of the page that is cleaned, and the state once its clean block is stored.
+-- The parts of Clean step: the frame of the page that is cleaned, and the log and the state once its clean block is stored.
 -- Assumes nothing.
 use Prim.Native.Nat.{ℕ, _+_, _-_, _*_, _^_, _≤_, _<_}
 use mathlib.Core.Path.{_≡_}
@@ -13,14 +13,9 @@ use Rattle.promises.specs.declared.Cleaning.the-variants.{Idle, First, Second, 
 use Rattle.promises.specs.declared.Answer.the-variants.{Done}
 use Rattle.promises.specs.declared.Outcome.{Outcome}
 use Rattle.promises.specs.Blocks.{clean, stored}
-use Rattle.promises.specs.DirtyPages.{DirtyPage, without}
 use Rattle.promises.specs.Sums.{firstGroups, smallest}
-use Rattle.promises.specs.CleanStep.{cleanRefusalOf, CleanSteps}
 use Rattle.block.specs.Sizes.{pageSize}
 use Rattle.promises.specs.States.{free, setBlock, setDirty, setCleaning}
-use Rattle.table.specs.Table.{Holds}
-use Rattle.stepping.specs.Tables.{tableWith, tableOf}
-use Rattle.cleaning.specs.declared.Change.{Change}
 
 -- the entry of a frame
 abbrev pub entryAt : State → ℕ → Dirty
@@ -56,43 +51,32 @@ pub record Chosen (state : State) (frame : ℕ) : Type 0 where
   pub used : entryAt state frame .first ≡ 0 → ⊥
   pub takes : TakesFrame (state .cleaning) state frame
 
--- the state with these entries of the frames, this next sequence and this cleaning
-abbrev pub stateAfter : State → List Dirty → ℕ → Cleaning → State
-stateAfter state dirty next cleaning = setCleaning (setBlock (setDirty state dirty) next (state .ticket)) cleaning
+-- how many stores of its page a cleaning has made
+abbrev pub storesMade : Cleaning → ℕ
+storesMade Idle = 0
+storesMade (First page) = 0
+storesMade (Second page) = 1
+storesMade (Third page) = 2
+
+-- what a half's store leans on: the page at home and the frame lie within the areas
+pub record Fitting (home frames page frame : ℕ) : Type 0 where
+  pub frameFew : frame < 32
+  pub pageFew : page < 4096
+  pub pageWithin : page * pageSize + pageSize ≤ home
+  pub frameWithin : frame * pageSize + pageSize ≤ frames
+
+-- the log with the clean block of a frame's page: its keep-from goes over the pages that stay dirty
+abbrev pub cleanedLog : State → List ℕ → ℕ → List ℕ
+cleanedLog state log frame = stored (state .slots) log (state .next) (record {
+  kind = clean (entryAt state frame .page);
+  keepFrom = smallest (state .next) (firstGroups (set (state .dirty) frame free));
+  ticket = state .ticket;
+})
 
 -- the state once a page's clean block is stored and these pages are dirty
 abbrev pub cleanDone : State → List Dirty → State
-cleanDone state dirty = stateAfter state dirty (state .next + 1) Idle
-
--- the state with one entry, the next sequence and the cleaning as a step changes them
-abbrev pub changed : State → Change → State
-changed state change = stateAfter state (set (state .dirty) (change .frame) (change .entry)) (change .next) (change .cleaning)
-
--- what a half's store leans on: the page at home and the frame lie within the areas
-pub record Fitting (state : State) (home frames frame : ℕ) : Type 0 where
-  pub frameFew : frame < 32
-  pub pageFew : entryAt state frame .page < 4096
-  pub pageWithin : entryAt state frame .page * pageSize + pageSize ≤ home
-  pub frameWithin : frame * pageSize + pageSize ≤ frames
-
--- what the clean block of a frame's page leaves: the page is dropped, and keep-from goes over those that stay dirty
-pub record Cleaned (state : State) (log : List ℕ) (frame : ℕ) (result : State) (log′ : List ℕ) : Type 0 where
-  pub stateIs : result ≡ cleanDone state (result .dirty)
-  pub dirtyIs : result .dirty ≡ set (state .dirty) frame free
-  pub logIs : log′ ≡ stored (state .slots) log (state .next) (record {
-    kind = clean (entryAt state frame .page);
-    keepFrom = smallest (state .next) (firstGroups (result .dirty));
-    ticket = state .ticket;
-  })
-  pub holds : (frames : List ℕ) (entries : List DirtyPage) → Holds (tableOf state) frames entries
-      → Holds (tableWith state (result .dirty)) frames (without (entryAt state frame .page) entries)
+cleanDone state dirty = setCleaning (setBlock (setDirty state dirty) (state .next + 1) (state .ticket)) Idle
 
 -- an accepted Clean step's outcome
 abbrev pub doneWith : State → Outcome
 doneWith state = record { state = state; answer = Done }
-
--- what Clean step changes: nothing where it is refused, else what one store leaves
-pub record Changes (state : State) (log home frames : List ℕ) (change : Change) (log′ home′ : List ℕ) : Type 0 where
-  pub frameFew : change .frame < 32
-  pub refused : (cleanRefusalOf state log home frames ≡ 0 → ⊥) → (changed state change ≡ state) × (log′ ≡ log) × (home′ ≡ home)
-  pub accepted : cleanRefusalOf state log home frames ≡ 0 → CleanSteps state log home frames (doneWith (changed state change)) log′ home′

@@ -123,12 +123,12 @@ module _ (s : State) (log home frames staging : List ℕ) (accepts : logRefusalO
       })
 
   -- the state with the group's size, and with the queue and the cleaning that the code puts in
-  pub commit-steps : (dirty : List Dirty) (log′ frames′ : List ℕ) (size : ℕ) (staged : List Staged) (groups : List ℕ) (cleaning : Cleaning) → length (s .dirty) ≡ 32 → size ≡ sizeOf s
+  pub commit-steps : (dirty : List Dirty) (log′ frames′ : List ℕ) (size : ℕ) (staged : List Staged) (groups : List ℕ) (cleaning : Cleaning) (r : State) → length (s .dirty) ≡ 32 → size ≡ sizeOf s
       → staged ≡ shifted (s .staged) size → groups ≡ shifted (s .groups) 1 → cleaning ≡ cleaningLeft (take size (s .staged)) (s .cleaning)
-      → sizeOf s ≤ s .stored → Commits s log home frames staging keep dirty log′ frames′
-      → LogSteps s log home frames staging (record { state = withQueue dirty staged groups cleaning; answer = Settled (s .ticket + 1) }) log′ frames′
-  commit-steps dirty log′ frames′ size staged groups cleaning full n a b c h m =
+      → sizeOf s ≤ s .stored → r ≡ withQueue dirty staged groups cleaning → Commits s log home frames staging keep dirty log′ frames′
+      → LogSteps s log home frames staging (record { state = r; answer = Settled (s .ticket + 1) }) log′ frames′
+  commit-steps dirty log′ frames′ size staged groups cleaning r full n a b c h t m =
       subst (λ (x : State). LogSteps s log home frames staging (record { state = x; answer = Settled (s .ticket + 1) }) log′ frames′)
-      (sym (ap (λ (x : List Staged). withQueue dirty x groups cleaning) a ∙ ap (λ (x : List ℕ). withQueue dirty (shifted (s .staged) size) x cleaning) b
+      (sym (t ∙ ap (λ (x : List Staged). withQueue dirty x groups cleaning) a ∙ ap (λ (x : List ℕ). withQueue dirty (shifted (s .staged) size) x cleaning) b
       ∙ ap (withQueue dirty (shifted (s .staged) size) (shifted (s .groups) 1)) c ∙ ap (commitDone s dirty) n))
       (commit-met dirty log′ frames′ full h m)

@@ -4,7 +4,7 @@
 ghost use mathlib.Core.Path.{_≡_};
 ghost use Prim.Native.Nat.{_≤_};
 ghost use Rattle.promises.specs.Answers.{numberOf};
-ghost use Rattle.promises.specs.States.{allZeroState};
+ghost use Rattle.promises.specs.States.{allZeroState, setCleaning};
 ghost use Rattle.promises.specs.Open.{openedState};
 
 // What a frame holds: a dirty page and its first group. First group 0: the frame is free.
@@ -96,6 +96,30 @@ impl State {
     {
         let none = [Dirty { page: 0, first: 0 }; 32];
         State::idle(0, 0, 0, 0, 0, none)
+    }
+
+    // The state with another cleaning: an enum in a field is not stored to, so the state is made anew, here alone.
+    pub fn with_cleaning(self, cleaning: Cleaning) -> State
+        ensures { λ r. ⌜ r ≡ setCleaning self cleaning ⌝ }
+    {
+        let dirty = self.dirty;
+        let staged = self.staged;
+        let groups = self.groups;
+        State {
+            pages: self.pages,
+            slots: self.slots,
+            frames: self.frames,
+            next: self.next,
+            ticket: self.ticket,
+            dirty,
+            staged,
+            groups,
+            queued: self.queued,
+            stored: self.stored,
+            reserved: self.reserved,
+            described: self.described,
+            cleaning,
+        }
     }
 }
 

@@ -4,6 +4,8 @@
 // bytes that came back from the functions below would be copied by each.
 use block::Block;
 use promises::Answer;
+use promises::Cleaning;
+use promises::Dirty;
 use promises::EndOutcome;
 use promises::Ended;
 use promises::LogOutcome;
@@ -194,23 +196,17 @@ pub fn log_step(
     let staged = queue::staged_shifted(waiting, size);
     let groups = queue::groups_shifted(sizes);
     let cleaning = queue::cleaning_left(after, size);
+    after.next = next;
+    after.dirty = dirty;
+    after.staged = staged;
+    after.groups = groups;
+    after.queued = after.queued - 1;
+    after.stored = 0;
+    after.ticket = after.ticket + 1;
+    let ticket = after.ticket;
     LogOutcome {
-        state: State {
-            pages: after.pages,
-            slots: after.slots,
-            frames: after.frames,
-            next,
-            ticket: after.ticket + 1,
-            dirty,
-            staged,
-            groups,
-            queued: after.queued - 1,
-            stored: 0,
-            reserved: after.reserved,
-            described: after.described,
-            cleaning,
-        },
-        answer: Logged::Settled(after.ticket + 1),
+        state: after.with_cleaning(cleaning),
+        answer: Logged::Settled(ticket),
     }
 }
 
@@ -218,42 +214,45 @@ pub fn log_step(
 pub fn clean_step(state: State, log: &mut [u8], home: &mut [u8], frames: &[u8]) -> Outcome
     ensures { λ r. ⌜ CleanSteps state (now (log .entry)) (now (home .entry)) (now (frames .entry)) r (now (log .exit)) (now (home .exit)) ⌝ }
 {
-    let verdict = soundness::checked(state);
+    let mut after = state;
+    let verdict = soundness::checked(after);
+    let number = cleaning::clean_refusal(verdict, after, log.len(), home.len(), frames.len());
+    if number != 0 {
+        let refusal = Refusal::of_number(number);
+        return Outcome {
+            state: after,
+            answer: Answer::Refused(refusal),
+        };
+    }
     let sums = verdict.sums;
-    let number = cleaning::clean_refusal(
-        verdict.sound,
-        sums,
-        state,
-        log.len(),
-        home.len(),
-        frames.len(),
-    );
-    let staged = state.staged;
-    let groups = state.groups;
-    let mut dirty = state.dirty;
-    let change = cleaning::clean_change(number, state, sums.dirty, log, home, frames);
-    let frame = change.frame;
-    let entry = change.entry;
-    let cleaning = change.cleaning;
-    let answer = cleaning::answer_of(number);
-    dirty[frame] = entry;
+    let count = sums.dirty;
+    let choice = cleaning::frame_to_clean(after, count);
+    let made = cleaning::stores_made(after);
+    if made == 2 {
+        cleaning::store_clean(after, count, log, frames, choice);
+        let frame = choice.frame;
+        let mut dirty = after.dirty;
+        dirty[frame] = Dirty { page: 0, first: 0 };
+        let next = after.next + 1;
+        after.dirty = dirty;
+        after.next = next;
+        return Outcome {
+            state: after.with_cleaning(Cleaning::Idle),
+            answer: Answer::Done,
+        };
+    }
+    let entry = choice.entry;
+    if made == 1 {
+        cleaning::store_second(home, frames, choice);
+        return Outcome {
+            state: after.with_cleaning(Cleaning::Third(entry.page)),
+            answer: Answer::Done,
+        };
+    }
+    cleaning::store_first(home, frames, choice);
     Outcome {
-        state: State {
-            pages: state.pages,
-            slots: state.slots,
-            frames: state.frames,
-            next: change.next,
-            ticket: state.ticket,
-            dirty,
-            staged,
-            groups,
-            queued: state.queued,
-            stored: state.stored,
-            reserved: state.reserved,
-            described: state.described,
-            cleaning,
-        },
-        answer,
+        state: after.with_cleaning(Cleaning::Second(entry.page)),
+        answer: Answer::Done,
     }
 }
 

@@ -12,7 +12,7 @@ use Rattle.cleaning.proofs.block_refusal.Statement.{statement}
 use Rattle.cleaning.proofs.block_refusal.Tie as tie
 
 returns : tie.Need-returns
-returns c = block-by ((c .before .before) .args .state) 0 false _ (sym (ne-eqb _ _ (c .if1 .taken))) refl
+returns c = (block-by ((c .before .before) .args .state) 0 false _ (sym (ne-eqb _ _ (c .if1 .taken))) refl, omega arith)
 
 owed-requires : tie.Need-owed-requires
 owed-requires c κs = let f : Sound ((c .before .before) .args .state) = sound-of _ ((c .before .before) .pre .0) in f .reserved
@@ -28,14 +28,14 @@ returns-2 c =
     let s = (c .before .before .before .before .before) .args .state in
     let w = (c .before .before .before .before .before) .pre .1 .waiting in
     let o = (c .before .before) .owed .ensures .0 in
-    block-by s 0 true true (sym (eq-eqb _ _ ((c .before .before .before) .if1 .left))) (sym (eq-eqb (sequencesTaken s) (2 ^ 48) (omega (arith, w, o, c .if2 .taken))))
+    (block-by s 0 true true (sym (eq-eqb _ _ ((c .before .before .before) .if1 .left))) (sym (eq-eqb (sequencesTaken s) (2 ^ 48) (omega (arith, w, o, c .if2 .taken)))), omega arith)
 
 returns-3 : tie.Need-returns-3
 returns-3 c =
     let s = (c .before .before .before .before .before) .args .state in
     let w = (c .before .before .before .before .before) .pre .1 .waiting in
     let o = (c .before .before) .owed .ensures .0 in
-    block-by s 0 true false (sym (eq-eqb _ _ ((c .before .before .before) .if1 .left))) (sym (ne-eqb (sequencesTaken s) (2 ^ 48) (λ e. c .if2 .left (omega (arith, w, o, e)))))
+    (block-by s 0 true false (sym (eq-eqb _ _ ((c .before .before .before) .if1 .left))) (sym (ne-eqb (sequencesTaken s) (2 ^ 48) (λ e. c .if2 .left (omega (arith, w, o, e))))), omega arith)
 
 pub block-refusal-spec : {M : Type 1} → statement M
 block-refusal-spec =

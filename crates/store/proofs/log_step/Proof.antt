@@ -90,14 +90,14 @@ groups-shifted-requires c κs = search needs
 cleaning-left-requires : tie.Need-cleaning-left-requires
 cleaning-left-requires c κs = let h = size-at (c .before .before .before .before .before .before .before .before .before .before .before .before .before) in omega arith
 
-add-t27 : tie.Need-add-t27
-add-t27 c = let r = ready-at (c .before .before .before .before .before .before .before .before .before .before .before .before .before .before .before .before .before .before) in let h = r .ticket in let n = r .next in omega arith
+sub-after : tie.Need-sub-after
+sub-after c = let q = ready-at (c .before .before .before .before .before .before .before .before .before .before .before .before .before .before .before .before .before .before) .queued in omega arith
 
-sub-t21 : tie.Need-sub-t21
-sub-t21 c = let q = ready-at (c .before .before .before .before .before .before .before .before .before .before .before .before .before .before .before .before .before .before .before) .queued in omega arith
+add-after : tie.Need-add-after
+add-after c = let r = ready-at (c .before .before .before .before .before .before .before .before .before .before .before .before .before .before .before .before .before .before .before) in let h = r .ticket in let n = r .next in omega arith
 
-add-t37 : tie.Need-add-t37
-add-t37 c = let r = ready-at (c .before .before .before .before .before .before .before .before .before .before .before .before .before .before .before .before .before .before .before .before) in let h = r .ticket in let n = r .next in omega arith
+with-cleaning-requires : tie.Need-with-cleaning-requires
+with-cleaning-requires c κs = search needs
 
 same-length-2 : tie.Need-same-length-2
 same-length-2 c = search needs
@@ -109,9 +109,9 @@ returns-3 : tie.Need-returns-3
 returns-3 c =
     let a = (c .before .before .before .before .before .before .before .before .before .before .before .before .before .before .before .before .before .before .before .before .before .before .before .before .before .before .before .before) .args in
     let g = (c .before .before .before .before .before .before .before .before .before .before .before .before .before .before .before .before .before) .group-size .ensures in
-    commit-steps (a .state) (a .log .now) (a .home .now) (a .frames .now) (a .staging .now) (none-at (c .before .before .before .before .before .before .before .before .before .before .before .before .before .before .before .before .before .before .before .before)) _ (kept-from (a .state) _ (sums-at (c .before .before .before .before .before .before .before .before .before .before .before .before .before .before .before .before .before .before .before .before))) _ _ _ _ _ _ _ (dirty-long (c .before .before .before .before .before .before .before .before .before .before .before .before .before .before .before .before .before .before .before .before .before .before .before .before .before .before .before .before)) g
+    commit-steps (a .state) (a .log .now) (a .home .now) (a .frames .now) (a .staging .now) (none-at (c .before .before .before .before .before .before .before .before .before .before .before .before .before .before .before .before .before .before .before .before)) _ (kept-from (a .state) _ (sums-at (c .before .before .before .before .before .before .before .before .before .before .before .before .before .before .before .before .before .before .before .before))) _ _ _ _ _ _ _ _ (dirty-long (c .before .before .before .before .before .before .before .before .before .before .before .before .before .before .before .before .before .before .before .before .before .before .before .before .before .before .before .before)) g
     ((c .before .before .before .before .before) .staged-shifted .ensures) ((c .before .before .before .before) .groups-shifted .ensures) ((c .before .before .before) .cleaning-left .ensures)
-    (omega (arith, g, (c .before .before .before .before .before .before .before .before .before .before .before .before .before .before .before) .if2 .left)) ((c .before .before .before .before .before .before .before .before .before .before .before .before) .store-commit .ensures)
+    (omega (arith, g, (c .before .before .before .before .before .before .before .before .before .before .before .before .before .before .before) .if2 .left)) (c .with-cleaning .ensures) ((c .before .before .before .before .before .before .before .before .before .before .before .before) .store-commit .ensures)
 
 pub log-step-spec : {M : Type 1} → statement M
 log-step-spec =
@@ -132,9 +132,9 @@ log-step-spec =
     staged-shifted-requires
     groups-shifted-requires
     cleaning-left-requires
-    add-t27
-    sub-t21
-    add-t37
+    sub-after
+    add-after
+    with-cleaning-requires
     same-length-2
     same-length-3
     returns-3)
