@@ -6,7 +6,7 @@ use mathlib.Core.List.{List, [], _∷_, _++_, map}
 use Prim.Native.Nat.{ℕ, zero, suc, _≤_, _<_}
 use native.Mathlib.Omega.{arith}
 use native.Mathlib.Decide.{ℕ-discrete, decLe}
-use lib.ListN.{length, take, drop, set}
+use lib.ListN.{length, getD, take, drop, set, replicate}
 
 -- ---- tests
 
@@ -45,6 +45,12 @@ pub either {ℓ} : {X : Type ℓ} (a b : ℕ) → (a < b → X) → (b ≤ a →
 either a b f g = elim (decLe (suc a) b) [ yes h ↦ f h | no h ↦ g (omega arith) ]
 
 -- ---- lists
+
+-- an element of a list that has one value everywhere, beyond its end too
+pub getD-all : {A : Type 0} (n i : ℕ) (x : A) → getD (replicate n x) i x ≡ x
+getD-all zero i x = refl
+getD-all (suc n) zero x = refl
+getD-all (suc n) (suc i) x = getD-all n i x
 
 pub map-take : {A B : Type 0} (f : A → B) (n : ℕ) (l : List A) → take n (map f l) ≡ map f (take n l)
 map-take f zero l = refl

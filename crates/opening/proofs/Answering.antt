@@ -3,9 +3,10 @@
 use mathlib.Core.Path.{_≡_, refl, sym, ap, _∙_, subst}
 use mathlib.Core.Bool.{Bool, true, false, cond}
 use mathlib.Core.List.{List, [], _∷_}
-use Prim.Native.Nat.{ℕ, zero, suc, _+_, _-_, _*_, _^_, _≤_}
+use Prim.Native.Nat.{ℕ, _+_, _-_, _*_, _^_, _≤_}
 use native.Mathlib.Omega.{arith}
 use lib.ListN.{length, drop, getD, replicate}
+use Rattle.area.proofs.Laws.{getD-all}
 use borrow.Author.Tests.{leb-true, ne-eqb}
 use Rattle.block.proofs.Tests.{tests}
 use Rattle.promises.specs.declared.State.{State}
@@ -67,13 +68,8 @@ module _ (log home : List ℕ) (count : ℕ) (found : FoundWalk) (frames : List 
 
 -- ---- the frames' entries: none was in use before
 
-all-free : (n f : ℕ) → getD (replicate n free) f free .first ≡ 0
-all-free zero f = refl
-all-free (suc n) zero = refl
-all-free (suc n) (suc f) = all-free n f
-
 entries-filled : (dirty : List Dirty) → length dirty ≡ 32 → ((f : ℕ) → getD dirty f free .first ≡ 0 → getD dirty f free ≡ free) → Fills (allZeroState .dirty) dirty
-entries-filled dirty full zeroes = record { count = full; kept = λ f used. absurd (used (all-free 32 f)); freeZero = zeroes }
+entries-filled dirty full zeroes = record { count = full; kept = λ f used. absurd (used (ap (λ (d : Dirty). d .first) (getD-all 32 f free))); freeZero = zeroes }
 
 -- ---- from the finding to the promise
 

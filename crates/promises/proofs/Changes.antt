@@ -57,7 +57,7 @@ describe-passed s staging page offset count e =
     (c2 .0, eqb-true _ _ (c1 .0), eqb-false _ _ (c4 .0), c3 .0, ltb-true _ _ (c5 .0))
 
 -- ---- Begin
-one-open : (u : ℕ) → (u ≡ 0 → ⊥) → cond (eqb u 0) [] (u ∷ []) ≡ u ∷ []
+pub one-open : (u : ℕ) → (u ≡ 0 → ⊥) → cond (eqb u 0) [] (u ∷ []) ≡ u ∷ []
 one-open u n = simp (ne-eqb u 0 n)
 
 pub sound-opened : (s : State) (u : ℕ) → Sound s → s .reserved ≡ 0 → 1 ≤ u → u ≤ 16 → slotsTaken s + 2 * u + 1 ≤ s .slots → framesTaken s + u ≤ s .frames → s .next + waitingBlocks s + u + 1 ≤ 2 ^ 48 → Sound (begunState s u)

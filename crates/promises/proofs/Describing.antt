@@ -1,8 +1,8 @@
 -- A described update in a free staging area: the promise of Describe is met.
 -- Assumes nothing.
 use mathlib.Core.Path.{_≡_, refl, sym, ap, _∙_}
-use mathlib.Core.Bool.{Bool, true, false, cond, not, _&&_, _||_}
-use Prim.Native.Nat.{ℕ, zero, suc, _+_, _*_, _-_, _≤_, _<_}
+use mathlib.Core.Bool.{Bool, true, false, not, _&&_, _||_}
+use Prim.Native.Nat.{ℕ, zero, suc, _+_, _*_, _≤_, _<_}
 use mathlib.Core.List.{List, [], _∷_, _++_, map}
 use native.Mathlib.Omega.{arith}
 use native.Mathlib.Nat.{zero-add, suc-add}
@@ -25,7 +25,7 @@ use Rattle.promises.specs.Describe.{describeRefusal, describedState, Des
 use Rattle.promises.specs.Answers.{done}
 use Rattle.promises.proofs.Replies.{replied-accepted}
 use Rattle.promises.proofs.Soundness.{Sound, sound-of, of-sound, parts-of, of-parts}
-use Rattle.promises.proofs.Changes.{describe-passed}
+use Rattle.promises.proofs.Changes.{one-open, describe-passed}
 use Rattle.area.proofs.Parts.{part-same, part-before, part-after}
 
 -- ---- lists
@@ -187,7 +187,7 @@ describe-met s page offset area bytes staging l32 e below free =
     let r = describe-passed s (length staging) page offset (length bytes) e in
     let f : Sound s = sound-of s (r .0) in
     let nz : s .reserved ≡ 0 → ⊥ = r .2 in
-    let o : total (openOnes s) ≡ s .reserved = ap total (one (s .reserved) nz) ∙ omega arith in
+    let o : total (openOnes s) ≡ s .reserved = ap total (one-open (s .reserved) nz) ∙ omega arith in
     let more : s .described < s .reserved = r .4 in
     let room : total (groupsOf s) + s .described < length (s .staged) = omega (arith, f .frameSum, f .frames, o) in
     let lent : length staging ≡ s .frames * 472 = r .1 in
@@ -208,6 +208,3 @@ describe-met s page offset area bytes staging l32 e below free =
         };
       };
     }
-  where
-    one : (u : ℕ) → (u ≡ 0 → ⊥) → cond (eqb u 0) [] (u ∷ []) ≡ u ∷ []
-    one u n = simp (ne-eqb u 0 n)

@@ -8,9 +8,10 @@ use lib.Dec.{eqb}
 use mathlib.Core.Bool.{Bool, true, false, cond}
 use mathlib.Core.Logic.{inr}
 use borrow.Author.Tests.{eqb-true}
-use Prim.Native.Nat.{ℕ, zero, suc, _-_}
+use Prim.Native.Nat.{ℕ, zero, suc}
 use mathlib.Core.List.{List, [], _∷_}
 use lib.ListN.{length, getD, set, replicate}
+use Rattle.area.proofs.Laws.{getD-all}
 use Rattle.area.specs.Part.{part, splice}
 use Rattle.promises.specs.declared.State.{State}
 use Rattle.promises.specs.declared.Dirty.{Dirty}
@@ -132,20 +133,15 @@ only p e x q = go (eqb p (e .page)) refl q
     go false o q = let n : _≡_ {A = ℕ} 0 1 = cc in absurd (omega arith)
 
 -- the frames' entries: all free, and page 0 newly in frame 0
-zero-free : (n frame : ℕ) → getD (replicate n free) frame free ≡ free
-zero-free zero frame = refl
-zero-free (suc n) zero = refl
-zero-free (suc n) (suc frame) = zero-free n frame
-
 none-filled : Fills (allZeroState .dirty) (awoken .dirty)
-none-filled = record { count = refl; kept = λ f n. absurd (n (ap (λ (d : Dirty). d .first) (zero-free 32 f))); freeZero = λ f e. zero-free 32 f }
+none-filled = record { count = refl; kept = λ f n. absurd (n (ap (λ (d : Dirty). d .first) (getD-all 32 f free))); freeZero = λ f e. getD-all 32 f free }
 
 one-filled : Fills (half .dirty) (dirty .dirty)
-one-filled = record { count = refl; kept = λ f n. absurd (n (ap (λ (d : Dirty). d .first) (zero-free 32 f))); freeZero = zeroes }
+one-filled = record { count = refl; kept = λ f n. absurd (n (ap (λ (d : Dirty). d .first) (getD-all 32 f free))); freeZero = zeroes }
   where
     zeroes : (f : ℕ) → getD (dirty .dirty) f free .first ≡ 0 → getD (dirty .dirty) f free ≡ free
     zeroes zero e = absurd (omega arith)
-    zeroes (suc f) e = zero-free 31 f
+    zeroes (suc f) e = getD-all 31 f free
 
 -- a log of zeros has nothing in it
 fresh : openFinding log₀ home 2048 944 ≡ stands 1 (startWith 0)

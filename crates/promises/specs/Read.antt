@@ -3,13 +3,14 @@
 use denote.Ref.{RefT, now}
 use Prim.Native.Nat.{ℕ, suc, _+_, _*_}
 use mathlib.Core.Path.{_≡_}
-use mathlib.Core.Bool.{cond, not, _&&_}
+use mathlib.Core.Bool.{cond, _&&_}
 use mathlib.Core.List.{List, [], _∷_}
 use lib.ListN.{length}
 use lib.Dec.{eqb, ltb}
 use Rattle.block.specs.Sizes.{pageSize}
 use Rattle.promises.specs.declared.State.{State}
 use Rattle.promises.specs.declared.Dirty.{Dirty}
+use Rattle.promises.specs.States.{isOf}
 use Rattle.promises.specs.Areas.{pageAt, homeLength, framesLength}
 use Rattle.promises.specs.DirtyPages.{lookUp, shown}
 use Rattle.promises.specs.Contents.{dirtyOf}
@@ -32,8 +33,7 @@ pub data Held : Type 0 where
 
 unfoldable pub heldIn : ℕ → ℕ → List Dirty → Held
 heldIn page frame [] = atHome
-heldIn page frame (entry ∷ entries) =
-    cond (not (eqb (entry .first) 0) && eqb page (entry .page)) (inFrame frame) (heldIn page (suc frame) entries)
+heldIn page frame (entry ∷ entries) = cond (isOf page entry) (inFrame frame) (heldIn page (suc frame) entries)
 
 -- where its part starts: the area, and how far from the area's start
 abbrev pub startOf : Held → ℕ × ℕ → ℕ × ℕ → ℕ → ℕ × ℕ

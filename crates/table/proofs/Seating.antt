@@ -10,7 +10,7 @@ use lib.Dec.{eqb, ltb, leb}
 use lib.ListN.{length, take, drop, getD, set, replicate, length-append, length-map, length-set, length-replicate, replicate-append-replicate, drop-of-length-le, List·getD-append, List·getD-map}
 use lib.Seq.{drop-cons, take-at, drop-at, set-at, take-suc, take-length, length-take-le, set-append-left}
 use borrow.Author.Tests.{lt-ltb, le-ltb, eq-eqb, ne-eqb, eqb-true, eqb-false, leb-true, leb-false}
-use Rattle.area.proofs.Laws.{by-cases, either, map-set}
+use Rattle.area.proofs.Laws.{by-cases, either, getD-all, map-set}
 use Rattle.area.specs.Part.{splice}
 use Rattle.promises.specs.declared.Dirty.{Dirty}
 use Rattle.promises.specs.Areas.{pageAt}
@@ -150,9 +150,7 @@ module _ (seats : List ℕ) where
 
 -- an entry that is free is zero
 zeroed : (xs : List ℕ) (n f : ℕ) → getD (map entryIn xs ++ replicate n free) f free .first ≡ 0 → getD (map entryIn xs ++ replicate n free) f free ≡ free
-zeroed [] zero f z = refl
-zeroed [] (suc n) zero z = refl
-zeroed [] (suc n) (suc f) z = zeroed [] n f z
+zeroed [] n f z = getD-all n f free
 zeroed (x ∷ xs) n zero z = entry-zero x z
 zeroed (x ∷ xs) n (suc f) z = zeroed xs n f z
 
