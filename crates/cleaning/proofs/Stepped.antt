@@ -1,6 +1,7 @@
 -- An accepted Clean step keeps its whole promise: the first half, the second half, or the clean block.
 -- Assumes nothing.
 use mathlib.Core.Path.{_≡_, refl, sym, ap, _∙_, subst}
+use mathlib.Core.Logic.{_⊎_, inl, inr}
 use mathlib.Core.Bool.{true}
 use mathlib.Core.List.{List, []}
 use Prim.Native.Nat.{ℕ, _*_, _^_, _≤_, _<_}
@@ -12,6 +13,8 @@ use Rattle.promises.specs.declared.State.{State}
 use Rattle.promises.specs.declared.Dirty.{Dirty}
 use Rattle.promises.specs.declared.Cleaning.{Cleaning}
 use Rattle.promises.specs.declared.Cleaning.the-variants.{Idle, First, Second, Third}
+use Rattle.promises.specs.declared.Answer.{Answer}
+use Rattle.promises.specs.Answers.{done, replied, answered}
 use Rattle.promises.specs.Areas.{pageAt, firstHalf, secondHalf, withFirstHalf, withSecondHalf}
 use Rattle.promises.specs.Blocks.{clean, stored}
 use Rattle.promises.specs.DirtyPages.{DirtyPage, at, lookUp, without}
@@ -19,16 +22,15 @@ use Rattle.promises.specs.Contents.{contentsOf, dirtyOf}
 use Rattle.promises.specs.States.{free, isOf, setCleaning}
 use Rattle.promises.specs.Sums.{dirtyCount, sequencesTaken}
 use Rattle.promises.specs.Sound.{sound, names, member, dirtyNumbers}
-use Rattle.promises.specs.CleanStep.{NoLater, Takes, cleanStore, thirdRefusal, cleanRefusalOf, CleanSteps}
+use Rattle.promises.specs.CleanStep.{NoLater, Takes, cleanStore, thirdRefusal, cleanRefusalOf, CleanStep, CleanSteps}
 use Rattle.promises.proofs.Soundness.{Sound, sound-of, of-sound}
 use Rattle.promises.proofs.Changes.{sound-cleaning}
-use Rattle.promises.proofs.Promised.{clean-accepts}
 use Rattle.table.specs.Table.{Holds}
 use Rattle.table.proofs.Entries.{freed-is}
 use Rattle.table.proofs.Holding.{held-keep, sound-holds}
 use Rattle.stepping.specs.Tables.{tableWith, tableOf}
 use Rattle.stepping.proofs.Held.{held-named}
-use Rattle.cleaning.specs.Cleans.{entryAt, rankIn, namedIn, storesMade, TakesFrame, Named, Chosen, Fitting, cleanedLog, cleanDone, doneWith}
+use Rattle.cleaning.specs.Cleans.{entryAt, rankIn, namedIn, storesMade, TakesFrame, Named, Chosen, Fitting, cleanedLog, cleanDone}
 use Rattle.cleaning.proofs.Decision.{Accepted, accepted, block-passed}
 use Rattle.cleaning.proofs.Choosing.{rank-zero, rank-named, dirty-at, first-used, rank-order, named-here, pages-small, frames-below, look-frame, look-all}
 use Rattle.cleaning.proofs.Storing.{drops-page, sound-clean}
@@ -112,72 +114,71 @@ module _ (s : State) (log home frames : List ℕ) (accepts : cleanRefusalOf s lo
   takes-by (Third named) t = sym t
 
   -- the step of a cleaning that is at this store
-  step-by : (c : Cleaning) (r : State) (log′ home′ : List ℕ) → s .cleaning ≡ c → sound r ≡ true
+  step-by : (a : Answer) (c : Cleaning) (r : State) (log′ home′ : List ℕ) → s .cleaning ≡ c → sound r ≡ true
       → log′ ≡ cleanStore c s log home pages (contentsOf s []) page entry .log → home′ ≡ cleanStore c s log home pages (contentsOf s []) page entry .home
       → r ≡ cleanStore c s log home pages (contentsOf s []) page entry .state
       → ((staging : List ℕ) → contentsOf r staging ≡ cleanStore c s log home pages (contentsOf s staging) page entry .contents)
       → ((other : ℕ) → lookUp other (dirtyOf r frames) ≡ lookUp other (cleanStore c s log home pages (contentsOf s []) page entry .dirtyPages))
-      → CleanSteps s log home frames (doneWith r) log′ home′
-  step-by c r log′ home′ e so l h t k d =
-      clean-accepts s log home frames (doneWith r) log′ home′ accepts refl
-      (record {
-        page = page;
-        entry = entry;
-        found = page-found;
-        takes = takes-by (s .cleaning) (chosen .takes);
-        staysSound = so;
-        logIs = l ∙ ap (λ (x : Cleaning). cleanStore x s log home pages (contentsOf s []) page entry .log) (sym e);
-        homeIs = h ∙ ap (λ (x : Cleaning). cleanStore x s log home pages (contentsOf s []) page entry .home) (sym e);
-        stateIs = t ∙ ap (λ (x : Cleaning). cleanStore x s log home pages (contentsOf s []) page entry .state) (sym e);
-        contentsAre = λ staging. k staging ∙ ap (λ (x : Cleaning). cleanStore x s log home pages (contentsOf s staging) page entry .contents) (sym e);
-        dirtyAre = λ other. d other ∙ ap (λ (x : Cleaning). lookUp other (cleanStore x s log home pages (contentsOf s []) page entry .dirtyPages)) (sym e);
-      })
+      → CleanStep s log home frames (record { state = r; answer = a }) log′ home′
+  step-by a c r log′ home′ e so l h t k d = record {
+    page = page;
+    entry = entry;
+    found = page-found;
+    takes = takes-by (s .cleaning) (chosen .takes);
+    staysSound = so;
+    logIs = l ∙ ap (λ (x : Cleaning). cleanStore x s log home pages (contentsOf s []) page entry .log) (sym e);
+    homeIs = h ∙ ap (λ (x : Cleaning). cleanStore x s log home pages (contentsOf s []) page entry .home) (sym e);
+    stateIs = t ∙ ap (λ (x : Cleaning). cleanStore x s log home pages (contentsOf s []) page entry .state) (sym e);
+    contentsAre = λ staging. k staging ∙ ap (λ (x : Cleaning). cleanStore x s log home pages (contentsOf s staging) page entry .contents) (sym e);
+    dirtyAre = λ other. d other ∙ ap (λ (x : Cleaning). lookUp other (cleanStore x s log home pages (contentsOf s []) page entry .dirtyPages)) (sym e);
+  }
 
   -- the page is dirty
   page-named : member page (dirtyNumbers (s .dirty)) ≡ true
   page-named = held-named (tableOf s) frames pages (sound-holds s frames (tests-passed .isSound)) page entry page-found
 
   -- a half's store leaves the state but for the cleaning
-  half-steps : (c after : Cleaning) (home′ : List ℕ) → s .cleaning ≡ c → names after (dirtyNumbers (s .dirty)) ≡ true
-      → log ≡ cleanStore c s log home pages (contentsOf s []) page entry .log → home′ ≡ cleanStore c s log home pages (contentsOf s []) page entry .home
+  half-steps : (a : Answer) (c after : Cleaning) (log′ home′ : List ℕ) → s .cleaning ≡ c → names after (dirtyNumbers (s .dirty)) ≡ true
+      → log′ ≡ cleanStore c s log home pages (contentsOf s []) page entry .log → home′ ≡ cleanStore c s log home pages (contentsOf s []) page entry .home
       → setCleaning s after ≡ cleanStore c s log home pages (contentsOf s []) page entry .state
       → ((staging : List ℕ) → contentsOf (setCleaning s after) staging ≡ cleanStore c s log home pages (contentsOf s staging) page entry .contents)
       → ((other : ℕ) → lookUp other (dirtyOf s frames) ≡ lookUp other (cleanStore c s log home pages (contentsOf s []) page entry .dirtyPages))
-      → CleanSteps s log home frames (doneWith (setCleaning s after)) log home′
-  half-steps c after home′ e n l h t k d =
-      step-by c (setCleaning s after) log home′ e (of-sound (setCleaning s after) (sound-cleaning s after facts n)) l h t k d
+      → CleanStep s log home frames (record { state = setCleaning s after; answer = a }) log′ home′
+  half-steps a c after log′ home′ e n l h t k d =
+      step-by a c (setCleaning s after) log′ home′ e (of-sound (setCleaning s after) (sound-cleaning s after facts n)) l h t k d
 
-  -- the first half is stored
-  pub first-made : (storesMade (s .cleaning) ≡ 2 → ⊥) → (storesMade (s .cleaning) ≡ 1 → ⊥) → (held : Dirty) → held ≡ entryAt s frame
-      → (r : State) (home′ : List ℕ) → r ≡ setCleaning s (Second (held .page)) → home′ ≡ withFirstHalf home (held .page) (firstHalf (pageAt frames frame))
-      → CleanSteps s log home frames (doneWith r) log home′
-  unfolding cleanStore
-  first-made two one held same r home′ t h =
-      subst (λ (x : State). CleanSteps s log home frames (doneWith x) log home′) (sym (t ∙ ap (λ (d : Dirty). setCleaning s (Second (d .page))) same))
-      (go (s .cleaning) refl two one (h ∙ ap (λ (d : Dirty). withFirstHalf home (d .page) (firstHalf (pageAt frames frame))) same))
-    where
-      go : (c : Cleaning) → s .cleaning ≡ c → (storesMade c ≡ 2 → ⊥) → (storesMade c ≡ 1 → ⊥) → home′ ≡ withFirstHalf home page (firstHalf (pageAt frames frame))
-          → CleanSteps s log home frames (doneWith (setCleaning s (Second page))) log home′
-      go Idle e two one h = half-steps Idle (Second page) home′ e page-named refl h refl (λ staging. refl) (λ other. refl)
-      go (First named) e two one h = half-steps (First named) (Second page) home′ e page-named refl h refl (λ staging. refl) (λ other. refl)
-      go (Second named) e two one h = absurd (one refl)
-      go (Third named) e two one h = absurd (two refl)
+  module _ (a : Answer) (r : State) where
+    -- the first half is stored
+    pub first-made : (storesMade (s .cleaning) ≡ 2 → ⊥) → (storesMade (s .cleaning) ≡ 1 → ⊥) → (held : Dirty) → held ≡ entryAt s frame
+        → (log′ home′ : List ℕ) → r ≡ setCleaning s (Second (held .page)) → log′ ≡ log → home′ ≡ withFirstHalf home (held .page) (firstHalf (pageAt frames frame))
+        → CleanStep s log home frames (record { state = r; answer = a }) log′ home′
+    unfolding cleanStore
+    first-made two one held same log′ home′ t l h =
+        subst (λ (x : State). CleanStep s log home frames (record { state = x; answer = a }) log′ home′) (sym (t ∙ ap (λ (d : Dirty). setCleaning s (Second (d .page))) same))
+        (go (s .cleaning) refl two one l (h ∙ ap (λ (d : Dirty). withFirstHalf home (d .page) (firstHalf (pageAt frames frame))) same))
+      where
+        go : (c : Cleaning) → s .cleaning ≡ c → (storesMade c ≡ 2 → ⊥) → (storesMade c ≡ 1 → ⊥) → log′ ≡ log → home′ ≡ withFirstHalf home page (firstHalf (pageAt frames frame))
+            → CleanStep s log home frames (record { state = setCleaning s (Second page); answer = a }) log′ home′
+        go Idle e two one l h = half-steps a Idle (Second page) log′ home′ e page-named l h refl (λ staging. refl) (λ other. refl)
+        go (First named) e two one l h = half-steps a (First named) (Second page) log′ home′ e page-named l h refl (λ staging. refl) (λ other. refl)
+        go (Second named) e two one l h = absurd (one refl)
+        go (Third named) e two one l h = absurd (two refl)
 
-  -- the second half is stored
-  pub second-made : storesMade (s .cleaning) ≡ 1 → (held : Dirty) → held ≡ entryAt s frame
-      → (r : State) (home′ : List ℕ) → r ≡ setCleaning s (Third (held .page)) → home′ ≡ withSecondHalf home (held .page) (secondHalf (pageAt frames frame))
-      → CleanSteps s log home frames (doneWith r) log home′
-  unfolding cleanStore
-  second-made one held same r home′ t h =
-      subst (λ (x : State). CleanSteps s log home frames (doneWith x) log home′) (sym (t ∙ ap (λ (d : Dirty). setCleaning s (Third (d .page))) same))
-      (go (s .cleaning) refl one (h ∙ ap (λ (d : Dirty). withSecondHalf home (d .page) (secondHalf (pageAt frames frame))) same))
-    where
-      go : (c : Cleaning) → s .cleaning ≡ c → storesMade c ≡ 1 → home′ ≡ withSecondHalf home page (secondHalf (pageAt frames frame))
-          → CleanSteps s log home frames (doneWith (setCleaning s (Third page))) log home′
-      go Idle e one h = absurd (omega (arith, one))
-      go (First named) e one h = absurd (omega (arith, one))
-      go (Second named) e one h = half-steps (Second named) (Third page) home′ e page-named refl h refl (λ staging. refl) (λ other. refl)
-      go (Third named) e one h = absurd (omega (arith, one))
+    -- the second half is stored
+    pub second-made : storesMade (s .cleaning) ≡ 1 → (held : Dirty) → held ≡ entryAt s frame
+        → (log′ home′ : List ℕ) → r ≡ setCleaning s (Third (held .page)) → log′ ≡ log → home′ ≡ withSecondHalf home (held .page) (secondHalf (pageAt frames frame))
+        → CleanStep s log home frames (record { state = r; answer = a }) log′ home′
+    unfolding cleanStore
+    second-made one held same log′ home′ t l h =
+        subst (λ (x : State). CleanStep s log home frames (record { state = x; answer = a }) log′ home′) (sym (t ∙ ap (λ (d : Dirty). setCleaning s (Third (d .page))) same))
+        (go (s .cleaning) refl one l (h ∙ ap (λ (d : Dirty). withSecondHalf home (d .page) (secondHalf (pageAt frames frame))) same))
+      where
+        go : (c : Cleaning) → s .cleaning ≡ c → storesMade c ≡ 1 → log′ ≡ log → home′ ≡ withSecondHalf home page (secondHalf (pageAt frames frame))
+            → CleanStep s log home frames (record { state = setCleaning s (Third page); answer = a }) log′ home′
+        go Idle e one l h = absurd (omega (arith, one))
+        go (First named) e one l h = absurd (omega (arith, one))
+        go (Second named) e one l h = half-steps a (Second named) (Third page) log′ home′ e page-named l h refl (λ staging. refl) (λ other. refl)
+        go (Third named) e one l h = absurd (omega (arith, one))
 
   -- the sequence of a clean block that is accepted
   third-passed : storesMade (s .cleaning) ≡ 2 → (s .stored ≡ 0) × (sequencesTaken s ≡ 2 ^ 48 → ⊥)
@@ -200,23 +201,40 @@ module _ (s : State) (log home frames : List ℕ) (accepts : cleanRefusalOf s lo
   page-of = rw (ne-eqb _ _ (chosen .used), eq-eqb page page refl)
 
   -- the clean block is stored, and the frame is free
-  pub block-made : storesMade (s .cleaning) ≡ 2 → (r : State) (log′ : List ℕ) → r ≡ cleanDone s (set (s .dirty) frame free) → log′ ≡ cleanedLog s log frame
-      → CleanSteps s log home frames (doneWith r) log′ home
+  pub block-made : (a : Answer) (r : State) → storesMade (s .cleaning) ≡ 2 → (log′ home′ : List ℕ) → r ≡ cleanDone s (set (s .dirty) frame free) → log′ ≡ cleanedLog s log frame
+      → home′ ≡ home → CleanStep s log home frames (record { state = r; answer = a }) log′ home′
   unfolding cleanStore
-  block-made two r log′ t l = subst (λ (x : State). CleanSteps s log home frames (doneWith x) log′ home) (sym t) (go (s .cleaning) refl two)
+  block-made a r two log′ home′ t l h =
+      subst (λ (x : State). CleanStep s log home frames (record { state = x; answer = a }) log′ home′) (sym t) (go (s .cleaning) refl two)
     where
       held : Holds (tableWith s (set (s .dirty) frame free)) frames (without page pages)
       held = drops-page s frame (chosen .below) (omega (arith, long, facts .frames .1)) (chosen .used) frames pages (sound-holds s frames (tests-passed .isSound))
 
-      go : (c : Cleaning) → s .cleaning ≡ c → storesMade c ≡ 2 → CleanSteps s log home frames (doneWith (cleanDone s (set (s .dirty) frame free))) log′ home
+      go : (c : Cleaning) → s .cleaning ≡ c → storesMade c ≡ 2 → CleanStep s log home frames (record { state = cleanDone s (set (s .dirty) frame free); answer = a }) log′ home′
       go Idle e two = absurd (omega (arith, two))
       go (First named) e two = absurd (omega (arith, two))
       go (Second named) e two = absurd (omega (arith, two))
       go (Third named) e two =
           let p = third-passed (ap storesMade e) in
-          step-by (Third named) (cleanDone s (set (s .dirty) frame free)) log′ home e
+          step-by a (Third named) (cleanDone s (set (s .dirty) frame free)) log′ home′ e
           (of-sound _ (sound-clean s frames page entry (set (s .dirty) frame free) facts (p .0) (p .1) page-found held))
           (l ∙ ap (λ (n : ℕ). stored (s .slots) log (s .next) (record { kind = clean page; keepFrom = n; ticket = s .ticket })) (held-keep (tableWith s (set (s .dirty) frame free)) frames (without page pages) held (s .next)))
-          refl
+          h
           (ap (cleanDone s) (freed-is page frame (s .dirty) (facts .distinctPages) page-of))
           (λ staging. refl) (held .looks)
+
+-- ---- THE WHOLE STEP: by its number it is refused and leaves everything, or it makes its store
+pub steps-by : (s : State) (log home frames : List ℕ) (number : ℕ) (r : State) (a : Answer) (log′ home′ : List ℕ)
+    → number ≡ cleanRefusalOf s log home frames → answered a ≡ replied number done
+    → ((number ≡ 0) × CleanStep s log home frames (record { state = r; answer = a }) log′ home′) ⊎ ((number ≡ 0 → ⊥) × (r ≡ s) × (log′ ≡ log) × (home′ ≡ home))
+    → CleanSteps s log home frames (record { state = r; answer = a }) log′ home′
+steps-by s log home frames number r a log′ home′ e told (inl w) = record {
+  answerIs = told ∙ ap (λ (n : ℕ). replied n done) e;
+  refused = λ n. absurd (n (sym e ∙ w .0));
+  accepted = λ z. w .1;
+}
+steps-by s log home frames number r a log′ home′ e told (inr w) = record {
+  answerIs = told ∙ ap (λ (n : ℕ). replied n done) e;
+  refused = λ n. (w .1, w .2, w .3);
+  accepted = λ z. absurd (w .0 (e ∙ z));
+}

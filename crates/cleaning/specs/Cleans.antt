@@ -10,8 +10,6 @@ use Rattle.promises.specs.declared.State.{State}
 use Rattle.promises.specs.declared.Dirty.{Dirty}
 use Rattle.promises.specs.declared.Cleaning.{Cleaning}
 use Rattle.promises.specs.declared.Cleaning.the-variants.{Idle, First, Second, Third}
-use Rattle.promises.specs.declared.Answer.the-variants.{Done}
-use Rattle.promises.specs.declared.Outcome.{Outcome}
 use Rattle.promises.specs.Blocks.{clean, stored}
 use Rattle.promises.specs.Sums.{firstGroups, smallest}
 use Rattle.block.specs.Sizes.{pageSize}
@@ -76,7 +74,3 @@ cleanedLog state log frame = stored (state .slots) log (state .next) (record {
 -- the state once a page's clean block is stored and these pages are dirty
 abbrev pub cleanDone : State → List Dirty → State
 cleanDone state dirty = setCleaning (setBlock (setDirty state dirty) (state .next + 1) (state .ticket)) Idle
-
--- an accepted Clean step's outcome
-abbrev pub doneWith : State → Outcome
-doneWith state = record { state = state; answer = Done }

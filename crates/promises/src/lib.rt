@@ -3,7 +3,7 @@
 // written here.
 ghost use mathlib.Core.Path.{_≡_};
 ghost use Prim.Native.Nat.{_≤_};
-ghost use Rattle.promises.specs.Answers.{numberOf};
+ghost use Rattle.promises.specs.Answers.{numberOf, done, replied, answered};
 ghost use Rattle.promises.specs.States.{allZeroState, setCleaning};
 ghost use Rattle.promises.specs.Open.{openedState};
 
@@ -183,6 +183,20 @@ impl Refusal {
 pub enum Answer {
     Refused(Refusal),
     Done,
+}
+
+impl Answer {
+    // The answer of a decision: the refusal with its number; 0: the call is done.
+    pub fn of_number(number: u64) -> Answer
+        requires { ⌜ number ≤ 11 ⌝ }
+        ensures { λ r. ⌜ answered r ≡ replied number done ⌝ }
+    {
+        if number == 0 {
+            return Answer::Done;
+        }
+        let refusal = Refusal::of_number(number);
+        Answer::Refused(refusal)
+    }
 }
 
 // What End answers: the transaction's ticket.

@@ -17,11 +17,12 @@ use Rattle.promises.specs.declared.Dirty.{Dirty}
 use Rattle.promises.specs.declared.Staged.{Staged}
 use Rattle.promises.specs.Sums.{firstGroups}
 use Rattle.promises.specs.declared.State.{State}
+use Rattle.promises.specs.declared.Answer.{Answer}
 use Rattle.promises.specs.declared.Answer.the-variants.{Done}
 use Rattle.promises.specs.Areas.{withStaged}
 use Rattle.promises.specs.Contents.{total, groupsOf}
 use Rattle.promises.specs.Sound.{member, areasOf, stagedOf}
-use Rattle.promises.specs.Describe.{describeRefusal, describedState, Describes}
+use Rattle.promises.specs.Describe.{describeRefusal, describedState, DescribeStep}
 use Rattle.promises.specs.Read.{Held, atHome, inFrame, heldIn, startOf, readRefusalOf, Reads}
 use Rattle.promises.proofs.Changes.{bytesAt, held-shows}
 use Rattle.promises.proofs.Describing.{describe-met}
@@ -93,14 +94,21 @@ abbrev pub addedAt : State → ℕ → Staged → State
 addedAt s place update = setOpen (setStaged s (set (s .staged) place update)) (s .reserved) (s .described + 1)
 
 -- an update in a free area, in the place after those that wait, with its bytes copied there
-pub describe-done : (s : State) (page offset area start count : ℕ) (bytes staging staging′ : List ℕ) → length (s .staged) ≡ 32
+pub describe-done : (s : State) (a : Answer) (r : State) (page offset area start count : ℕ) (bytes staging staging′ : List ℕ) → length (s .staged) ≡ 32
     → describeRefusal s (length staging) page offset (length bytes) ≡ 0 → area < s .frames → member area (areasOf (stagedOf s)) ≡ false
     → count ≡ total (groupsOf s) + s .described → start ≡ area
+    → r ≡ addedAt s count (record { page = page; offset = offset; length = length bytes; area = area })
     → staging′ ≡ splice staging (start * 472) (length bytes) (part bytes 0 (length bytes))
-    → Describes s (updateOf page offset bytes) staging (record { state = addedAt s count (record { page = page; offset = offset; length = length bytes; area = area }); answer = Done }) staging′
-describe-done s page offset area start count bytes staging staging′ long e below free is at copied =
+    → DescribeStep s (updateOf page offset bytes) staging (record { state = r; answer = a }) staging′
+describe-done s a r page offset area start count bytes staging staging′ long e below free is at t copied =
+    let u : Staged = record { page = page; offset = offset; length = length bytes; area = area } in
     let stored : staging′ ≡ withStaged staging area (length bytes) bytes =
     copied ∙ ap (λ (l : List ℕ). splice staging (start * 472) (length bytes) l) (part-all bytes (length bytes) (omega arith)) ∙ ap (λ (n : ℕ). splice staging (n * 472) (length bytes) bytes) at in
-    subst (λ (n : ℕ). Describes s (updateOf page offset bytes) staging (record { state = addedAt s n (record { page = page; offset = offset; length = length bytes; area = area }); answer = Done }) staging′) (sym is)
-    (subst (λ (l : List ℕ). Describes s (updateOf page offset bytes) staging (record { state = describedState s (record { page = page; offset = offset; length = length bytes; area = area }); answer = Done }) l) (sym stored)
-    (describe-met s page offset area bytes staging long e below free))
+    subst (λ (x : State). DescribeStep s (updateOf page offset bytes) staging (record { state = x; answer = a }) staging′) (sym (t ∙ ap (λ (n : ℕ). addedAt s n u) is))
+    (subst (λ (l : List ℕ). DescribeStep s (updateOf page offset bytes) staging (record { state = describedState s u; answer = a }) l) (sym stored)
+    (any-answer (describe-met s page offset area bytes staging long e below free .accepted e)))
+  where
+    -- the step does not speak of the answer
+    any-answer : {x : State} {l : List ℕ} → DescribeStep s (updateOf page offset bytes) staging (record { state = x; answer = Done }) l
+        → DescribeStep s (updateOf page offset bytes) staging (record { state = x; answer = a }) l
+    any-answer d = record { area = d .area; areaBelow = d .areaBelow; areaFree = d .areaFree; stagingIs = d .stagingIs; stateIs = d .stateIs; leaves = d .leaves }

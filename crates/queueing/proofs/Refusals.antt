@@ -1,37 +1,39 @@
 -- What refusals and their absence tell: the tests of the code are those of the definitions, a refused call keeps its promise,
 -- and an accepted one knows what its change needs.
 -- Assumes nothing.
-use mathlib.Core.Path.{_≡_, refl, sym, ap, _∙_}
+use mathlib.Core.Path.{_≡_, refl, sym, ap, _∙_, subst}
+use mathlib.Core.Logic.{_⊎_, inl, inr}
 use mathlib.Core.Bool.{true, false, _&&_, and-assoc}
 use mathlib.Core.List.{List}
 use Prim.Native.Nat.{ℕ, _+_, _*_, _/_, _^_, _≤_, _<_}
 use native.Mathlib.Omega.{arith}
 use lib.Dec.{eqb, leb, ltb}
-use lib.ListN.{length}
+use lib.ListN.{length, replicate}
 use lib.Seq.{length-take-le}
 use borrow.Author.Tests.{eqb-false, ltb-true}
 use Rattle.area.proofs.Laws.{not-passed}
 use Rattle.block.proofs.Tests.{tests}
 use Rattle.promises.specs.declared.State.{State}
 use Rattle.promises.specs.declared.Refusal.{Refusal}
-use Rattle.promises.specs.declared.Answer.the-variants.{Refused}
+use Rattle.promises.specs.declared.Answer.{Answer}
 use Rattle.promises.specs.declared.Ended.the-variants.{Refused as EndRefused}
 use Rattle.promises.specs.declared.Standing.the-variants.{Refused as StandingRefused}
-use Rattle.promises.specs.Answers.{Reply, refuses, done, gives, says, numberOf, replied}
+use Rattle.promises.specs.Answers.{Reply, refuses, done, gives, says, numberOf, replied, answered}
 use Rattle.promises.specs.Areas.{logFits}
 use Rattle.promises.specs.Updates.{Update}
-use Rattle.promises.specs.Contents.{total, groupsOf}
+use Rattle.promises.specs.Contents.{contentsOf, total, groupsOf}
 use Rattle.promises.specs.Sums.{waitingBlocks, lastEnded}
 use Rattle.promises.specs.Sound.{sound}
+use Rattle.promises.specs.Leaves.{Leaves}
 use Rattle.promises.specs.Format.{formatRefusal, Formats}
-use Rattle.promises.specs.Begin.{beginInRange, beginHasRoom, beginRefusal, Begins}
-use Rattle.promises.specs.Describe.{describeRefusal, Describes}
+use Rattle.promises.specs.Begin.{beginInRange, beginHasRoom, beginRefusal, begun, begunState, Begins}
+use Rattle.promises.specs.Describe.{describeRefusal, DescribeStep, Describes}
 use Rattle.promises.specs.End.{endRefusal, Ends}
 use Rattle.promises.specs.Settled.{settledRefusal, Settles}
 use Rattle.promises.specs.Read.{readRefusal}
 use Rattle.promises.proofs.Replies.{replied-refused}
 use Rattle.promises.proofs.Soundness.{Sound, sound-of}
-use Rattle.promises.proofs.Changes.{pick-zero, pick-other, describe-passed, groups-count}
+use Rattle.promises.proofs.Changes.{pick-zero, pick-other, begin-met, describe-passed, groups-count}
 use Rattle.soundness.specs.declared.sums.Sums.{Sums}
 use Rattle.soundness.specs.Summed.{Summed}
 use Rattle.soundness.proofs.Counts.{reserved-is}
@@ -61,22 +63,40 @@ module _ (x : Refusal) (number : ℕ) (is : numberOf x ≡ number) (some : numbe
   whole-answer : {n : ℕ} → number ≡ n → (reply : Reply) → refuses (numberOf x) ≡ replied n reply
   whole-answer {n} e reply = ap refuses (is ∙ e) ∙ sym (replied-refused n reply (λ z. some (e ∙ z)))
 
-  pub format-refused : (log : List ℕ) → number ≡ formatRefusal (length log) → Formats log (Refused x) log
-  format-refused log e = record { answerIs = whole-answer e done; refused = λ n. refl; accepted = λ z. absurd (some (e ∙ z)) }
-
-  pub begin-refused : (s : State) (u : ℕ) → number ≡ beginRefusal s u → Begins s u (record { state = s; answer = Refused x })
-  begin-refused s u e = record { answerIs = whole-answer e done; refused = λ n. refl; stateIs = λ z. absurd (some (e ∙ z)); leaves = λ z. absurd (some (e ∙ z)) }
-
-  pub describe-refused : (s : State) (update : Update) (staging : List ℕ)
-      → number ≡ describeRefusal s (length staging) (update .page) (update .offset) (length (update .bytes))
-      → Describes s update staging (record { state = s; answer = Refused x }) staging
-  describe-refused s update staging e = record { answerIs = whole-answer e done; refused = λ n. (refl, refl); accepted = λ z. absurd (some (e ∙ z)) }
-
   pub end-refused : (s : State) → number ≡ endRefusal s → Ends s (record { state = s; answer = EndRefused x })
   end-refused s e = record { answerIs = whole-answer e (gives (lastEnded s + 1)); refused = λ n. refl; stateIs = λ z. absurd (some (e ∙ z)); leaves = λ z. absurd (some (e ∙ z)) }
 
   pub settled-refused : (s : State) (ticket : ℕ) → number ≡ settledRefusal s ticket → Settles s ticket (StandingRefused x)
   settled-refused s ticket e = record { answerIs = whole-answer e (says (leb ticket (s .ticket))) }
+
+-- ---- calls that are done or refused, by their number
+
+module _ (number : ℕ) (a : Answer) (told : answered a ≡ replied number done) where
+  -- the whole answer
+  answer-by : {n : ℕ} → number ≡ n → answered a ≡ replied n done
+  answer-by e = told ∙ ap (λ (n : ℕ). replied n done) e
+
+  pub format-by : (log log′ : List ℕ) → number ≡ formatRefusal (length log)
+      → ((number ≡ 0) × (log′ ≡ replicate (length log) 0)) ⊎ ((number ≡ 0 → ⊥) × (log′ ≡ log)) → Formats log a log′
+  format-by log log′ e (inl w) = record { answerIs = answer-by e; refused = λ n. absurd (n (sym e ∙ w .0)); accepted = λ z. w .1 }
+  format-by log log′ e (inr w) = record { answerIs = answer-by e; refused = λ n. w .1; accepted = λ z. absurd (w .0 (e ∙ z)) }
+
+  pub begin-by : (s : State) (u : ℕ) (r : State) → number ≡ beginRefusal s u → ((number ≡ 0) × (r ≡ begunState s u)) ⊎ ((number ≡ 0 → ⊥) × (r ≡ s))
+      → Begins s u (record { state = r; answer = a })
+  begin-by s u r e (inl w) = record {
+    answerIs = answer-by e;
+    refused = λ n. absurd (n (sym e ∙ w .0));
+    stateIs = λ z. w .1;
+    leaves = λ z staging. subst (λ (x : State). Leaves s x staging (begun (contentsOf s staging) u)) (sym (w .1)) (begin-met s u z .leaves z staging);
+  }
+  begin-by s u r e (inr w) = record { answerIs = answer-by e; refused = λ n. w .1; stateIs = λ z. absurd (w .0 (e ∙ z)); leaves = λ z. absurd (w .0 (e ∙ z)) }
+
+  pub describe-by : (s : State) (update : Update) (staging : List ℕ) (r : State) (staging′ : List ℕ)
+      → number ≡ describeRefusal s (length staging) (update .page) (update .offset) (length (update .bytes))
+      → ((number ≡ 0) × DescribeStep s update staging (record { state = r; answer = a }) staging′) ⊎ ((number ≡ 0 → ⊥) × (r ≡ s) × (staging′ ≡ staging))
+      → Describes s update staging (record { state = r; answer = a }) staging′
+  describe-by s update staging r staging′ e (inl w) = record { answerIs = answer-by e; refused = λ n. absurd (n (sym e ∙ w .0)); accepted = λ z. w .1 }
+  describe-by s update staging r staging′ e (inr w) = record { answerIs = answer-by e; refused = λ n. (w .1, w .2); accepted = λ z. absurd (w .0 (e ∙ z)) }
 
 -- ---- accepted calls
 

@@ -1,7 +1,7 @@
--- Every refusal has a number other than 0; and a refused Log step or Clean step keeps its whole promise: it answers its refusal and leaves
--- everything as it was.
+-- Every refusal has a number other than 0; and a refused Log step keeps its whole promise: it answers its refusal and leaves everything as
+-- it was.
 -- Assumes nothing.
-use mathlib.Core.Path.{_≡_, refl, sym, ap, _∙_}
+use mathlib.Core.Path.{_≡_, refl, ap}
 use Prim.Native.Nat.{ℕ, _<_}
 use mathlib.Core.List.{List}
 use native.Mathlib.Omega.{arith}
@@ -20,12 +20,9 @@ use Rattle.promises.specs.declared.Refusal.the-variants.{
   NothingToDo,
   HeldBack,
 }
-use Rattle.promises.specs.declared.Answer.the-variants.{Refused}
 use Rattle.promises.specs.declared.Logged.the-variants.{Refused as LogRefused}
-use Rattle.promises.specs.Answers.{refuses, done, numberOf}
+use Rattle.promises.specs.Answers.{refuses, numberOf}
 use Rattle.promises.specs.LogStep.{logRefusalOf, LogSteps}
-use Rattle.promises.specs.CleanStep.{cleanRefusalOf, CleanSteps}
-use Rattle.promises.proofs.Replies.{replied-refused}
 
 -- every refusal has a number
 pub numbered : (refusal : Refusal) → 0 < numberOf refusal
@@ -45,13 +42,5 @@ pub log-refused : (s : State) (log home frames staging : List ℕ) (refusal : Re
     → LogSteps s log home frames staging (record { state = s; answer = LogRefused refusal }) log frames
 log-refused s log home frames staging refusal e = record {
   refused = λ n. (ap refuses e, refl, refl, refl);
-  accepted = λ z. absurd (omega (arith, numbered refusal));
-}
-
-pub clean-refused : (s : State) (log home frames : List ℕ) (refusal : Refusal) → numberOf refusal ≡ cleanRefusalOf s log home frames
-    → CleanSteps s log home frames (record { state = s; answer = Refused refusal }) log home
-clean-refused s log home frames refusal e = record {
-  answerIs = ap refuses e ∙ sym (replied-refused (cleanRefusalOf s log home frames) done (λ z. omega (arith, numbered refusal)));
-  refused = λ n. (refl, refl, refl);
   accepted = λ z. absurd (omega (arith, numbered refusal));
 }

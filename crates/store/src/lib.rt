@@ -35,12 +35,10 @@ pub fn format(log: &mut [u8]) -> Answer
     ensures { λ r. ⌜ Formats (now (log .entry)) r (now (log .exit)) ⌝ }
 {
     let number = deciding::format_refusal(log.len());
-    if number != 0 {
-        let refusal = Refusal::of_number(number);
-        return Answer::Refused(refusal);
+    if number == 0 {
+        area::clear(log);
     }
-    area::clear(log);
-    Answer::Done
+    Answer::of_number(number)
 }
 
 // Recovers from the log: the state, its dirty pages in frames, and the last committed ticket as settled; or a refusal with its place.
@@ -57,18 +55,13 @@ pub fn begin(state: State, u: usize) -> Outcome
     let mut after = state;
     let verdict = soundness::checked(after);
     let number = deciding::begin_refusal(verdict, after, u);
-    if number != 0 {
-        let refusal = Refusal::of_number(number);
-        return Outcome {
-            state: after,
-            answer: Answer::Refused(refusal),
-        };
+    if number == 0 {
+        after.reserved = u;
+        after.described = 0;
     }
-    after.reserved = u;
-    after.described = 0;
     Outcome {
         state: after,
-        answer: Answer::Done,
+        answer: Answer::of_number(number),
     }
 }
 
@@ -92,32 +85,27 @@ pub fn describe(
         offset,
         bytes.len(),
     );
-    if number != 0 {
-        let refusal = Refusal::of_number(number);
-        return Outcome {
-            state: after,
-            answer: Answer::Refused(refusal),
+    if number == 0 {
+        let sums = verdict.sums;
+        let count = sums.queued + after.described;
+        let waiting = after.staged;
+        let area = finding::free_area(waiting, count, after.frames);
+        let start = soundness::wide::byte(area) * Block::NEW_BYTES;
+        area::copy_part(staging, start, bytes, 0, bytes.len());
+        let mut staged = waiting;
+        staged[count] = Staged {
+            page: page as u16,
+            offset: offset as u16,
+            length: bytes.len() as u16,
+            area,
         };
+        let described = after.described + 1;
+        after.staged = staged;
+        after.described = described;
     }
-    let sums = verdict.sums;
-    let count = sums.queued + after.described;
-    let waiting = after.staged;
-    let area = finding::free_area(waiting, count, after.frames);
-    let start = soundness::wide::byte(area) * Block::NEW_BYTES;
-    area::copy_part(staging, start, bytes, 0, bytes.len());
-    let mut staged = waiting;
-    staged[count] = Staged {
-        page: page as u16,
-        offset: offset as u16,
-        length: bytes.len() as u16,
-        area,
-    };
-    let described = after.described + 1;
-    after.staged = staged;
-    after.described = described;
     Outcome {
         state: after,
-        answer: Answer::Done,
+        answer: Answer::of_number(number),
     }
 }
 
@@ -217,42 +205,33 @@ pub fn clean_step(state: State, log: &mut [u8], home: &mut [u8], frames: &[u8]) 
     let mut after = state;
     let verdict = soundness::checked(after);
     let number = cleaning::clean_refusal(verdict, after, log.len(), home.len(), frames.len());
-    if number != 0 {
-        let refusal = Refusal::of_number(number);
-        return Outcome {
-            state: after,
-            answer: Answer::Refused(refusal),
-        };
+    let mut cleaning = after.cleaning;
+    if number == 0 {
+        let sums = verdict.sums;
+        let count = sums.dirty;
+        let choice = cleaning::frame_to_clean(after, count);
+        let entry = choice.entry;
+        let made = cleaning::stores_made(after);
+        if made == 2 {
+            cleaning::store_clean(after, count, log, frames, choice);
+            let frame = choice.frame;
+            let mut dirty = after.dirty;
+            dirty[frame] = Dirty { page: 0, first: 0 };
+            let next = after.next + 1;
+            after.dirty = dirty;
+            after.next = next;
+            cleaning = Cleaning::Idle;
+        } else if made == 1 {
+            cleaning::store_second(home, frames, choice);
+            cleaning = Cleaning::Third(entry.page);
+        } else {
+            cleaning::store_first(home, frames, choice);
+            cleaning = Cleaning::Second(entry.page);
+        }
     }
-    let sums = verdict.sums;
-    let count = sums.dirty;
-    let choice = cleaning::frame_to_clean(after, count);
-    let made = cleaning::stores_made(after);
-    if made == 2 {
-        cleaning::store_clean(after, count, log, frames, choice);
-        let frame = choice.frame;
-        let mut dirty = after.dirty;
-        dirty[frame] = Dirty { page: 0, first: 0 };
-        let next = after.next + 1;
-        after.dirty = dirty;
-        after.next = next;
-        return Outcome {
-            state: after.with_cleaning(Cleaning::Idle),
-            answer: Answer::Done,
-        };
-    }
-    let entry = choice.entry;
-    if made == 1 {
-        cleaning::store_second(home, frames, choice);
-        return Outcome {
-            state: after.with_cleaning(Cleaning::Third(entry.page)),
-            answer: Answer::Done,
-        };
-    }
-    cleaning::store_first(home, frames, choice);
     Outcome {
-        state: after.with_cleaning(Cleaning::Second(entry.page)),
-        answer: Answer::Done,
+        state: after.with_cleaning(cleaning),
+        answer: Answer::of_number(number),
     }
 }
 

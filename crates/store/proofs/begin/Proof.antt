@@ -1,8 +1,7 @@
 -- `begin` meets its contract.
 -- Assumes nothing.
-use mathlib.Core.Path.{sym, _∙_}
-use Rattle.promises.proofs.Changes.{begin-met}
-use Rattle.queueing.proofs.Refusals.{begin-refused}
+use mathlib.Core.Logic.{inl, inr, ⊎-elim}
+use Rattle.queueing.proofs.Refusals.{begin-by}
 use borrow.Author.Needs.{needs}
 use Rattle.store.proofs.begin.Statement.{statement}
 use Rattle.store.proofs.begin.Tie as tie
@@ -18,18 +17,10 @@ of-number-requires c κs = search needs
 
 returns : tie.Need-returns
 returns c =
-    let args = (c .before .before .before .before) .args in
-    begin-refused (c .of-number .result) ((c .before .before) .begin-refusal .result) (c .of-number .ensures) ((c .before) .if1 .taken) (args .state) (args .u) ((c .before .before) .begin-refusal .ensures .0)
-
-returns-2 : tie.Need-returns-2
-returns-2 c = begin-met ((c .before .before .before) .args .state) ((c .before .before .before) .args .u) (sym ((c .before) .begin-refusal .ensures .0) ∙ c .if1 .left)
+    let a = (c .before .before .before .before) .args in
+    begin-by ((c .before .before) .begin-refusal .result) _ (c .of-number .ensures) (a .state) (a .u) _ ((c .before .before) .begin-refusal .ensures .0)
+    (⊎-elim (λ w. inl (w .0 .taken, w .1)) (λ w. inr (w .0 .left, w .1)) ((c .before) .if1 .came))
 
 pub begin-spec : {M : Type 1} → statement M
 begin-spec =
-    tie.close
-    (tie.spec
-    checked-requires
-    begin-refusal-requires
-    of-number-requires
-    returns
-    returns-2)
+    tie.close (tie.spec checked-requires begin-refusal-requires of-number-requires returns)
