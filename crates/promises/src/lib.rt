@@ -98,7 +98,7 @@ impl State {
         State::idle(0, 0, 0, 0, 0, none)
     }
 
-    // The state with another cleaning: an enum in a field is not stored to, so the state is made anew, here alone.
+    // The state with another cleaning. An enum in a field can't be stored to, so the state is made anew, here alone.
     pub fn with_cleaning(self, cleaning: Cleaning) -> State
         ensures { λ r. ⌜ r ≡ setCleaning self cleaning ⌝ }
     {

@@ -1,7 +1,7 @@
 // The page store: the nine calls of document 01, each with its one promise and no `requires`. A desk program lends log, home, frames and
 // staging, and keeps the state between calls. Each call judges the state, decides its refusal and changes nothing where it refuses; what
 // it decides with and what it stores stands in the crates below. A call changes a copy of its state and hands that back: a state of 880
-// bytes that came back from the functions below would be copied by each.
+// bytes that came back from the crates below would be copied by each.
 use block::Block;
 use promises::Answer;
 use promises::Cleaning;
