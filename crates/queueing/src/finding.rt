@@ -14,7 +14,7 @@ pub fn free_area(staged: [Staged; 32], count: usize, frames: usize) -> u8
     requires { ⌜ (count < frames) × (frames ≤ 32) ⌝ }
     ensures { λ r. ⌜ (r < frames) × (member r (areasOf (take count staged)) ≡ false) ⌝ }
 {
-    let areas = soundness::queue::areas_of(staged, count);
+    let areas = soundness::queued::areas_of(staged, count);
     let list = areas.list;
     let end = frames as u8;
     let mut area: u8 = 0;

@@ -37,8 +37,8 @@ fn lower(a: u64, b: u64) -> u64
     a
 }
 
-// One pass over the frames; four free ones are passed over at once. The numbers of the dirty pages go to a list that the caller lends:
-// one handed back would be copied right after it was written, number by number, and the processor waits at such a copy.
+// One pass over the frames; four free ones are passed over at once. The numbers of the dirty pages go to a list that the caller lends: one
+// handed back would be copied in wide pieces right after it was written number by number, which stalls store-to-load forwarding.
 pub fn survey_of(
     dirty: [Dirty; 32],
     pages: usize,

@@ -1,7 +1,7 @@
-// Whether a state is sound, for any bits in it, and the paper's sums D, H, W and V. Knows the state alone, not the areas.
+// Whether a state is sound, for any bits in it, and the sums D, H, W and V over it (docs/CALLS.md). Knows the state alone, not the areas.
 pub mod dirty;
 pub mod numbers;
-pub mod queue;
+pub mod queued;
 pub mod sums;
 pub mod wide;
 
@@ -60,7 +60,7 @@ pub fn checked(state: State) -> Verdict
         return unsound();
     }
     let groups = state.groups;
-    let sizes = queue::sizes_of(groups, state.queued);
+    let sizes = queued::sizes_of(groups, state.queued);
     if !(sizes.legal & (state.stored <= sizes.oldest)) {
         return unsound();
     }
@@ -92,7 +92,7 @@ pub fn checked(state: State) -> Verdict
         return Verdict { sound: pages, sums };
     }
     let staged = state.staged;
-    let waiting = queue::staged_sound(staged, count, state.pages, state.frames);
+    let waiting = queued::staged_sound(staged, count, state.pages, state.frames);
     Verdict {
         sound: pages & waiting,
         sums,

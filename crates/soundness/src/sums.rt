@@ -1,4 +1,4 @@
-// The paper's sums over a state.
+// The sums over a state.
 ghost use mathlib.Core.Path.{_≡_};
 ghost use Prim.Native.Nat.{_≤_};
 ghost use Rattle.promises.specs.Sums.{owedBlocks};

@@ -1,8 +1,8 @@
--- `queue::update_sound` meets its contract.
+-- `queued::update_sound` meets its contract.
 -- Assumes nothing.
 use borrow.Author.Needs.{needs}
-use Rattle.soundness.proofs.queue.update_sound.Statement.{statement}
-use Rattle.soundness.proofs.queue.update_sound.Tie as tie
+use Rattle.soundness.proofs.queued.update_sound.Statement.{statement}
+use Rattle.soundness.proofs.queued.update_sound.Tie as tie
 
 field-requires : tie.Need-field-requires
 field-requires c κs = search needs

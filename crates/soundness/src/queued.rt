@@ -1,4 +1,5 @@
-// The queue of a state: its groups' sizes, and the updates that wait in staging.
+// The queue of a state: its groups' sizes, and the updates that wait in staging. (`rt try` takes every crate as source, so that a module may
+// not have the name of a crate such as `queue`.)
 ghost use mathlib.Core.Path.{_≡_};
 ghost use Prim.Native.Nat.{_≤_};
 ghost use lib.ListN.{length, take, getD};

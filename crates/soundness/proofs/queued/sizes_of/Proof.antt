@@ -1,4 +1,4 @@
--- `queue::sizes_of` meets its contract. The loop's invariant: what is told is told of the groups seen, the last ones.
+-- `queued::sizes_of` meets its contract. The loop's invariant: what is told is told of the groups seen, the last ones.
 -- Assumes nothing.
 use Prim.Native.Nat.{ℕ, _-_, _*_, _≤_}
 use mathlib.Core.Path.{_≡_, sym, ap, _∙_}
@@ -13,8 +13,8 @@ use Rattle.promises.specs.Sound.{sizesLegal}
 use Rattle.soundness.proofs.Scans.{rest-back, rest-end}
 use borrow.Author.Needs.{needs}
 use native.Mathlib.Omega.{arith}
-use Rattle.soundness.proofs.queue.sizes_of.Statement.{statement}
-use Rattle.soundness.proofs.queue.sizes_of.Tie as tie
+use Rattle.soundness.proofs.queued.sizes_of.Statement.{statement}
+use Rattle.soundness.proofs.queued.sizes_of.Tie as tie
 
 abbrev Inv-loop : tie.InvT-loop
 Inv-loop queued groups legal₀ oldest₀ updates₀ i₀ legal oldest updates i =

@@ -1,4 +1,4 @@
--- `queue::staged_sound` meets its contract. The loop's invariant: what is told and gathered so far, and what is left, make the whole.
+-- `queued::staged_sound` meets its contract. The loop's invariant: what is told and gathered so far, and what is left, make the whole.
 -- Assumes nothing.
 use Prim.Native.Nat.{_-_, _≤_}
 use mathlib.Core.Path.{_≡_, refl, sym, ap, _∙_}
@@ -11,8 +11,8 @@ use Rattle.soundness.specs.Tests.{updatesLegal}
 use Rattle.soundness.proofs.Scans.{length-mapped, updates-more, updates-end, areas-more, areas-end}
 use borrow.Author.Needs.{needs}
 use native.Mathlib.Omega.{arith}
-use Rattle.soundness.proofs.queue.staged_sound.Statement.{statement}
-use Rattle.soundness.proofs.queue.staged_sound.Tie as tie
+use Rattle.soundness.proofs.queued.staged_sound.Statement.{statement}
+use Rattle.soundness.proofs.queued.staged_sound.Tie as tie
 
 abbrev Inv-loop : tie.InvT-loop
 Inv-loop count pages frames staged list₀ legal₀ i₀ list legal i =

@@ -1,4 +1,4 @@
--- `queue::areas_of` meets its contract. The loop's invariant: the areas so far and those left are all.
+-- `queued::areas_of` meets its contract. The loop's invariant: the areas so far and those left are all.
 -- Assumes nothing.
 use Prim.Native.Nat.{_-_, _≤_}
 use mathlib.Core.Path.{_≡_, refl}
@@ -8,8 +8,8 @@ use Rattle.promises.specs.Sound.{areasOf}
 use Rattle.soundness.proofs.Scans.{length-mapped, areas-more, areas-end}
 use borrow.Author.Needs.{needs}
 use native.Mathlib.Omega.{arith}
-use Rattle.soundness.proofs.queue.areas_of.Statement.{statement}
-use Rattle.soundness.proofs.queue.areas_of.Tie as tie
+use Rattle.soundness.proofs.queued.areas_of.Statement.{statement}
+use Rattle.soundness.proofs.queued.areas_of.Tie as tie
 
 abbrev Inv-loop : tie.InvT-loop
 Inv-loop count staged list₀ i₀ list i = (i ≤ count) × (length list ≡ 32) × (take i list ++ areasOf (drop i (take count staged)) ≡ areasOf (take count staged))
