@@ -1,5 +1,25 @@
 // The log block: its layout, its check, writing it to a slot and judging a slot. Layers above know the format only through
 // the contracts here and the laws of proofs/ about the definitions that they cite.
+//
+// A block is 512 bytes. Numbers are unsigned, least byte first.
+//
+//    at  bytes  field
+//     0    8    sequence, 1 to 2^48 - 1; block s stands in slot s modulo N
+//     8    8    keep-from: the oldest block that an opening still needs, 1 to the sequence, fewer than N back
+//    16    1    kind: 1 update, 2 commit, 3 clean
+//    17    1    0
+//    18    2    index: an update's place in its group, 1 to 16; a commit's count of updates, 1 to 16; a clean's 0
+//    20    2    page, below P (commit: 0)
+//    22    2    offset in the page (update only, else 0)
+//    24    2    length of the new bytes, 1 to 472, that end within the page (update only, else 0)
+//    26    2    0
+//    28    8    ticket: the last committed one, below the sequence; a commit carries its own, at least 1
+//    36  472    new bytes, 0 behind them
+//   508    2    A: the sum of bytes 0 to 507, modulo 65,535
+//   510    2    B: the sum of (508 - i) times byte i, modulo 65,535
+//
+// A slot is unused if all its bytes are zero, valid if every rule of this table holds and it is the slot of its sequence, else damaged.
+// docs/FORMAT.md has what the blocks of a log mean together.
 pub mod check;
 mod judging;
 mod number;
@@ -7,8 +27,6 @@ mod writing;
 
 ghost use mathlib.Core.Path.{_≡_};
 ghost use Prim.Native.Nat.{_≤_, _<_};
-ghost use lib.Dec.{leb, ltb};
-ghost use mathlib.Core.Bool.{_&&_};
 ghost use lib.ListN.{length};
 ghost use Rattle.block.specs.Sizes.{blockSize, newBytesMost, pageSize};
 ghost use Rattle.block.specs.Layout.{layout};
