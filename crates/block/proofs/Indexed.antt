@@ -1,4 +1,4 @@
--- The two sums as the paper writes them, over the index of each byte: `check-a-indexed` and `check-b-indexed` are its two sentences, for
+-- The two sums as docs/FORMAT.md has them, over the index of each byte: `check-a-indexed` and `check-b-indexed` are its two sentences, for
 -- any modulus.
 -- Assumes nothing.
 use mathlib.Core.Path.{_≡_, refl, sym, ap, _∙_}

@@ -1,4 +1,4 @@
--- The worked cases are as the paper says: the starred ones as one statement, cases 10 to 12, and those of a damaged end.
+-- The worked cases are as the rules say: the starred ones as one statement, cases 10 to 12, and those of a damaged end.
 -- Assumes nothing.
 use mathlib.Core.Path.{refl}
 use Rattle.area.specs.Part.{part, splice}

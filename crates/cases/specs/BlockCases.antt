@@ -1,4 +1,4 @@
--- Cases 1 to 4, 8 and 9 of document 01's "Checked by hand": those that need the block format only. 8 slots, 4 pages.
+-- Cases 1 to 4, 8 and 9 of 01, "Checked by hand": those that need the block format only. 8 slots, 4 pages.
 -- Assumes nothing.
 use Prim.Native.Nat.{ℕ}
 use mathlib.Core.Bool.{Bool, true, false}

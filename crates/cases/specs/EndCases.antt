@@ -43,7 +43,7 @@ endCases =
     ∷ record { number = 2; found = finds (changedIn 2 settled); expected = 7 ∷ 2 ∷ [] }
     -- an older block and the slot after the newest: 7, the missing block first
     ∷ record { number = 3; found = finds (changedIn 1 (changedIn 3 settled)); expected = 7 ∷ 1 ∷ [] }
-    -- a slot further on: no matter, as case 5 of document 01
+    -- a slot further on: no matter, as case 5 of `StoreCases`
     ∷ record { number = 4; found = finds (changedIn 4 settled); expected = 3 ∷ 1 ∷ 1 ∷ 42 ∷ [] }
     -- the only block: no valid slot, 7 with place 0
     ∷ record { number = 5; found = finds (changedIn 1 (logOf (updateOfCase2 ∷ []))); expected = 7 ∷ 0 ∷ [] }

@@ -1,4 +1,4 @@
--- Cases 5 to 7 of document 01's "Checked by hand", which join the list of the starred ones; and cases 10 to 12, a second list over the
+-- Cases 5 to 7 of 01, "Checked by hand", which join the list of the starred ones; and cases 10 to 12, a second list over the
 -- promises' definitions. 8 slots, 4 pages, 2 frames unless said.
 -- Assumes nothing.
 use Prim.Native.Nat.{ℕ, suc, _-_}

@@ -1,1 +1,1 @@
-// The worked cases of document 01 over the definitions: the list stands in specs/, its proof in proofs/. No code.
+// Worked cases over the definitions, each with what the rules say of it: the list stands in specs/, its proof in proofs/. No code.

@@ -27,7 +27,7 @@ fn wide(page: u16) -> usize
     page as usize
 }
 
-// What the store of a clean block is refused with, by the paper's number: a half-stored group holds it back, or the sequences are used up.
+// What the store of a clean block is refused with, by number: a half-stored group holds it back, or the sequences are used up.
 pub fn block_refusal(state: State, sums: Sums) -> u64
     requires { ⌜ (sound state ≡ true) × Summed state sums × Small state sums ⌝ }
     ensures { λ r. ⌜ (r ≡ thirdRefusal state (Third 0)) × (r ≤ 11) ⌝ }
@@ -56,7 +56,7 @@ pub fn third_refusal(state: State, sums: Sums) -> u64
     }
 }
 
-// What Clean step is refused with, by the paper's number, 0 where it is accepted: from the verdict on the state, the state and the
+// What Clean step is refused with, by number, 0 where it is accepted: from the verdict on the state, the state and the
 // lengths of the lent areas.
 pub fn clean_refusal(verdict: Verdict, state: State, log: usize, home: usize, frames: usize) -> u64
     requires { ⌜ Judges state verdict ⌝ }

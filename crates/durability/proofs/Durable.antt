@@ -1,4 +1,4 @@
--- Demand 3 of the code as shipped, and what follows from it for a desk.
+-- The crash theorem of the code as shipped, and what follows from it for a desk. In words: docs/GUARANTEE.md.
 -- Assumes nothing.
 use denote.Ref.{now}
 use mathlib.Core.Path.{subst}
@@ -93,7 +93,7 @@ format-promised log answer log′ t =
 keeps-promises : Refines shipped
 keeps-promises = record { formats = format-promised; steps = step-promised }
 
--- demand 3, of the code as shipped
+-- the crash theorem, of the code as shipped
 pub durable : Durable
 durable = demand-three-by shipped keeps-promises
 

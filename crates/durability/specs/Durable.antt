@@ -1,4 +1,6 @@
--- Demand 3 of the code as shipped: the runs' steps are what a caller learns of the store's entries.
+-- THE CRASH THEOREM of the code as shipped. For every list of calls and power cuts, every legal size and any initial pages: each accepted
+-- answer is the book's, and the next Open is accepted, reports m and shows the book's pages. A call may do anything that its contract allows:
+-- the runs' steps are what a caller learns of the store's entries. In words: docs/GUARANTEE.md.
 -- Assumes nothing.
 use Rattle.promises.specs.Claim.{Steps, Claim, BookClaim}
 use Rattle.durability.specs.Called.{Formatted, Taken}

@@ -1,1 +1,1 @@
-// What a run of the store's calls and power cuts shows: no code, the theorem of demand 3 over the calls' own contracts.
+// What a run of the store's calls and power cuts shows: no code, the crash theorem over the calls' own contracts.

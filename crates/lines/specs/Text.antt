@@ -1,4 +1,4 @@
--- The text of a listing: numbers in decimal, and the lines of document 01's `logshow`. A text is the list of its ASCII codes.
+-- The text of a listing: numbers in decimal, and the lines of `logshow`. A text is the list of its ASCII codes.
 -- Assumes nothing.
 use Prim.Native.Nat.{ℕ, zero, suc, _+_, _/_, _%_, _≤_}
 use mathlib.Core.Path.{_≡_}

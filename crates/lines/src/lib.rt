@@ -1,8 +1,6 @@
 // The lines of a listing, each written into a lent slice. It knows a block's fields, and nothing of a log.
 use block::Block;
 use block::Kind;
-ghost use mathlib.Core.Path.{_≡_};
-ghost use mathlib.Core.List.{_++_};
 ghost use Prim.Native.Nat.{_+_, _≤_};
 ghost use lib.ListN.{length};
 ghost use Rattle.lines.specs.Text.{decimal, newline, field as fieldText, lineMost, firstLine, kindText, blockLine, refusedLine, Adds, Shows};

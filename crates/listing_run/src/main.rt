@@ -3,7 +3,7 @@ use block::Block;
 ghost use mathlib.Core.Path.{_≡_};
 ghost use Prim.Native.Nat.{_+_, _≤_};
 ghost use lib.ListN.{length};
-ghost use Rattle.block.specs.Sizes.{blockSize, newBytesMost, groupMost, sequenceEnd};
+ghost use Rattle.block.specs.Sizes.{blockSize, newBytesMost, groupMost};
 
 // Stores a block in its slot of a log.
 fn store(log: &mut [u8], block: Block, new: &[u8])

@@ -34,7 +34,7 @@ fn wide_place(place: u16) -> usize
     place as usize
 }
 
-// What Log step is refused with, by the paper's number, 0 where it is accepted: from whether the state is sound, the state and the lengths of
+// What Log step is refused with, by number, 0 where it is accepted: from whether the state is sound, the state and the lengths of
 // the lent areas.
 pub fn log_refusal(
     holds: bool,

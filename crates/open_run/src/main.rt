@@ -1,4 +1,4 @@
-// Open on logs made by hand: cases 5, 6, 7 and 12 of document 01, each refusal with its place, damaged ends, and a log that wraps. N is
+// Open on logs made by hand: worked cases 5, 6, 7 and 12, each refusal with its place, damaged ends, and a log that wraps. N is
 // 8, P 4, F 2 unless the line says otherwise; home's bytes are 5, and frames hold 9 before each opening. One line for each.
 use block::Block;
 use libc::STDOUT_FILENO;
@@ -127,7 +127,7 @@ fn half_groups(log: &mut [u8], ticket: u64)
     }
 }
 
-// Cases 6, 5, 7 of document 01.
+// Worked cases 6, 5 and 7.
 fn small_logs() {
     let mut log = [0; 4096];
     run(b"fresh: ", &log, 2);
@@ -139,7 +139,7 @@ fn small_logs() {
     run(b"case 7: ", &log, 2);
 }
 
-// Case 12 of document 01, and refusals 1 and 7.
+// Worked case 12, and refusals 1 and 7.
 fn damaged_logs() {
     let mut log = [0; 4096];
     one_group(&mut log);

@@ -1,4 +1,4 @@
--- Where a walk starts and how it ends: the last test is the paper's.
+-- Where a walk starts and how it ends: the last test is that of `ending`.
 -- Assumes nothing.
 use mathlib.Core.Path.{_≡_, refl, sym, ap, _∙_, subst}
 use mathlib.Core.Bool.{Bool, true, false, cond}
@@ -65,7 +65,7 @@ start-leads log home frames slots next first more count ticket = record {
 
 -- ---- the end
 
--- the code's last test is the paper's
+-- the code's last test is that of `ending`
 span-is : (log home : List ℕ) (s : ℕ) (walk : Walk) (frames : List ℕ) (paper : PaperWalk) (slots next : ℕ) → Stands log home s walk frames paper
     → spanFits (walk .table) slots next ≡ leb (next - keepFromOf next (paper .dirtyPages) + length (paper .dirtyPages)) slots
 span-is log home s walk frames paper slots next st =

@@ -1,4 +1,4 @@
--- The slots that the scan noted give the blocks that the paper's opening gathers, or the lowest missing one, or a damaged end.
+-- The slots that the scan noted give the blocks that `gathered` gives, or the lowest missing one, or a damaged end.
 -- Assumes nothing.
 use mathlib.Core.Path.{_≡_, refl, sym, ap, _∙_, subst}
 use mathlib.Core.Bool.{Bool, true, false, cond}
@@ -99,7 +99,7 @@ module _ (log home : List ℕ) (big : 512 ≤ length log) where
       ap (λ (j : ℕ). sequenceIn (slotAt N P log j)) (x .placeIs) ∙ e)
       (λ h. absurd (n (sym (r .1) ∙ ap sequenceIn (no-slot N P log (r .0) h))))
 
-  -- and its keep-from is the paper's k
+  -- and its keep-from is `keepOf`
   pub keep-is : (newest slots ≡ 0 → ⊥) → keepOf N slots ≡ headerOf log (newest slots) .«keep_from»
   keep-is n = ap keepIn (stands-valid (newest slots) (one (newest slots) n) (newest-stands n))
     where

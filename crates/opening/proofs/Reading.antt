@@ -1,4 +1,4 @@
--- What the scan, the search for a missing block and the walk find is what the paper finds.
+-- What the scan, the search for a missing block and the walk find is `finding`.
 -- Assumes nothing.
 use mathlib.Core.Path.{_≡_, refl, sym, ap, _∙_, subst}
 use mathlib.Core.Bool.{Bool, true, false}

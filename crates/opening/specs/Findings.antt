@@ -1,4 +1,4 @@
--- What the code finds in a log, beside the paper's finding.
+-- What the code finds in a log, beside the promised finding.
 -- Assumes nothing.
 use Prim.Native.Nat.{ℕ, _+_, _<_}
 use mathlib.Core.Path.{_≡_}
@@ -36,7 +36,7 @@ foundStopped place = record { newest = 0; stage = stageRefused (stageStart 0) 7 
 abbrev pub stoppedAt : ℕ → ℕ → FoundWalk
 stoppedAt count place = record { newest = 0; walk = refusedAt (startOf count 0) 7 place }
 
--- the walk ended where the paper's does, and what soundness asks for holds of it
+-- the walk ended where the promised one does, and what soundness asks for holds of it
 pub record Accepts (log home : List ℕ) (found : Finding) (result : FoundWalk) (frames′ : List ℕ) : Type 0 where
   pub paper : PaperWalk
   pub foundIs : found ≡ stands (result .newest + 1) paper
@@ -45,7 +45,7 @@ pub record Accepts (log home : List ℕ) (found : Finding) (result : FoundWalk) 
   pub spanWithin : spanFits (result .walk .table) (slotsIn (length log)) (result .newest + 1) ≡ true
   pub newestBelow : result .newest < sequenceEnd
 
--- a refusal is the paper's, with its place; otherwise the walk stands
+-- a refusal is the promised one, with its place; otherwise the walk stands
 pub record Finds (log home : List ℕ) (count : ℕ) (found : Finding) (result : FoundWalk) (frames′ : List ℕ) : Type 0 where
   pub countIs : result .walk .table .count ≡ count
   pub refused : (result .walk .stage .refusal ≡ 0 → ⊥) → found ≡ stops (result .walk .stage .refusal) (result .walk .stage .place)

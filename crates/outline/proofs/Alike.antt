@@ -157,7 +157,7 @@ unfolding steps
 steps-stopped frames [] refusal place = refl
 steps-stopped frames (block ∷ list) refusal place = steps-stopped frames list refusal place
 
--- THE WALK WITHOUT BYTES is the paper's walk, whatever home holds
+-- THE WALK WITHOUT BYTES is the promised walk, whatever home holds
 pub walk-alike : (slots frames : ℕ) (home : ℕ → List ℕ) (next sequence : ℕ) (list : List LogBlock) (walk : Walk) → sequence + length list ≡ next
     → sketchOf (walkFrom slots frames home next sequence list walk) ≡ ended slots (steps frames (fieldsFrom sequence list) (stands sequence (outlineOf walk)))
 unfolding walkFrom steps fieldsFrom turned

@@ -11,7 +11,7 @@ use Rattle.outline.specs.declared.Mark.{Mark}
 use Rattle.outline.specs.declared.Marks.{Marks}
 use Rattle.outline.specs.declared.Group.{Group}
 
--- ---- what is left of the paper's lists without bytes
+-- ---- what is left of the promised walk's lists without bytes
 
 abbrev pub marksOf : List DirtyPage → List Mark
 marksOf [] = []

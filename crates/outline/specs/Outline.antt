@@ -1,4 +1,4 @@
--- Open's walk without bytes, block by block, over the fields of the blocks alone. That it is the paper's walk with the bytes left out is
+-- Open's walk without bytes, block by block, over the fields of the blocks alone. That it is the promised walk with the bytes left out is
 -- proved in proofs/Alike.antt.
 -- Assumes nothing.
 use Prim.Native.Nat.{ℕ, suc, _+_, _-_, _≤_, _<_}

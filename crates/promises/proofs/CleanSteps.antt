@@ -25,7 +25,6 @@ use Rattle.promises.specs.LogStep.{areasFit}
 use Rattle.promises.specs.CleanStep.{thirdRefusal, cleanRefusal, cleanRefusalOf, Takes, cleanBlock, cleanStore, cleanStored}
 use Rattle.promises.proofs.Changes.{pick-zero, pick-other}
 use Rattle.promises.proofs.History.Machine.{Live, idle, second, third, setPage, halfStored, World as Machine, up}
-use Rattle.promises.proofs.History.Machine as machine
 use Rattle.promises.proofs.History.Ledger as ledger
 use Rattle.promises.proofs.History.Stored.{store}
 use Rattle.promises.proofs.History.Sees.{Sees}

@@ -1,4 +1,4 @@
--- What follows from demand 3 for a desk.
+-- What follows from the crash theorem for a desk.
 -- Assumes nothing.
 use mathlib.Core.Path.{_≡_, refl, sym, ap, _∙_, subst}
 use mathlib.Core.Bool.{Bool, true, false, cond}

@@ -1,4 +1,5 @@
--- DEMAND 3, proved from the calls' own promises.
+-- THE CRASH THEOREM, proved from the calls' own promises. To read before it: Kept (the invariant), QuietCalls, LogSteps, CleanSteps and Openings
+-- (each call keeps it, and answers what the book says).
 -- Assumes nothing.
 use mathlib.Core.Path.{_≡_, refl, sym, ap, _∙_, subst}
 use mathlib.Core.Logic.{_⊎_, ⊎-elim}
@@ -241,7 +242,7 @@ answer z range w b g cleanStep a w′ l st ok = st .replyIs ∙ accepted-is _ _ 
 answer z range w b g (reading p) a w′ l st ok = answer-reading z w b g p a w′ st ok
 answer z range w b g (settling t) a w′ l st ok = answer-settling z w b g t a w′ st ok
 
--- demand 3
+-- the crash theorem
 pub demand-three : Claim promised
 demand-three z inRange w b run =
     let range = ranged z inRange in

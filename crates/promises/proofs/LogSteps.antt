@@ -28,7 +28,6 @@ use Rattle.promises.proofs.History.Sizes as full
 use Rattle.promises.proofs.History.Stored.{store}
 use Rattle.promises.proofs.History.WalkStart.{lastKeep-snoc}
 use Rattle.promises.proofs.History.Invariant.{Keep, empty, from, Wells}
-use Rattle.promises.proofs.History.Invariant as inv
 use Rattle.promises.proofs.History.HalfEnd.{begins-le}
 use Rattle.promises.proofs.History.KeepFrom.{keep-applied}
 use Rattle.promises.proofs.History.Whole.{Kept, Runs, Room, kept-update, kept-commit, count-le}

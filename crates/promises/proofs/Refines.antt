@@ -1,4 +1,4 @@
--- Demand 3 for every way of stepping that keeps the promises: what a caller learns of the code, for one.
+-- The crash theorem for every way of stepping that keeps the promises: what a caller learns of the code, for one.
 -- Assumes nothing.
 use mathlib.Core.Path.{_≡_, refl, ap}
 use mathlib.Core.List.{List, _++_}

@@ -1,4 +1,4 @@
--- What a caller is told: the paper's number and values of each answer. Every promise gives the whole answer by these definitions.
+-- What a caller is told: the number and the values of each answer. Every promise gives the whole answer by these definitions.
 -- Assumes nothing.
 use Prim.Native.Nat.{ℕ}
 use mathlib.Core.Bool.{Bool, true, false, cond}

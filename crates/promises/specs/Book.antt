@@ -1,4 +1,4 @@
--- The BOOK of demand 3.
+-- The BOOK of the crash theorem: what the calls and cuts so far should have led to. In words: docs/GUARANTEE.md.
 -- Assumes nothing.
 use Prim.Native.Nat.{ℕ, _+_}
 use mathlib.Core.Bool.{cond}

@@ -1,4 +1,4 @@
--- DEMAND 3: every list of calls and cuts from Format's end on, beside its book.
+-- THE CRASH THEOREM: every list of calls and cuts from Format's end on, beside its book. In words: docs/GUARANTEE.md.
 -- Assumes nothing.
 use mathlib.Core.Path.{_≡_}
 use mathlib.Core.Logic.{_⊎_}

@@ -1,4 +1,4 @@
--- What follows from demand 3 for a desk, as statements of their own.
+-- What follows from the crash theorem for a desk, as statements of their own.
 -- Assumes nothing.
 use mathlib.Core.Path.{_≡_}
 use mathlib.Core.Logic.{_⊎_}

@@ -1,4 +1,4 @@
--- The events of demand 3: calls, each by its own promise, and cuts.
+-- The events of the crash theorem: calls, each by its own promise, and cuts.
 -- Assumes nothing.
 use denote.Ref.{RefT, now}
 use mathlib.Core.Path.{_≡_}

@@ -1,4 +1,4 @@
--- When a state is SOUND: document 01's sentence, clause by clause.
+-- When a state is SOUND, clause by clause. In words: docs/CALLS.md.
 -- Assumes nothing.
 use Prim.Native.Nat.{ℕ, _+_}
 use mathlib.Core.Bool.{Bool, true, false, not, _&&_, _||_}

@@ -1,4 +1,4 @@
--- The paper's sums: D, H, W, V and R.
+-- The sums D, H, W, V and R over a state. In words: docs/CALLS.md.
 -- Assumes nothing.
 use Prim.Native.Nat.{ℕ, _+_, _-_, min}
 use mathlib.Core.Bool.{cond}

@@ -1,6 +1,6 @@
 // The page store's state and the answers of its calls, as declared types, with the all-zero state and the number of a refusal. What each
-// call promises stands in specs/, one file to a call; demand 3 is proved from these promises alone in proofs/Demand3.antt. No call is
-// written here.
+// call promises stands in specs/, one file to a call; the crash theorem is proved from these promises alone in proofs/Demand3.antt.
+// No call is written here.
 ghost use mathlib.Core.Path.{_≡_};
 ghost use Prim.Native.Nat.{_≤_};
 ghost use Rattle.promises.specs.Answers.{numberOf, done, replied, answered};
@@ -123,7 +123,7 @@ impl State {
     }
 }
 
-// Why a call is refused: the paper's refusals 1 to 11, in its order.
+// Why a call is refused, in the order of the refusals' numbers, 1 to 11. docs/CALLS.md says what to do at each.
 pub enum Refusal {
     WrongLength,
     NotSound,
@@ -139,7 +139,7 @@ pub enum Refusal {
 }
 
 impl Refusal {
-    // The paper's number of a refusal.
+    // The number of a refusal, 1 to 11.
     pub fn number(self) -> u64
         ensures { λ r. ⌜ r ≡ numberOf self ⌝ }
     {

@@ -259,7 +259,7 @@ fn queue_lines() {
     settles(queued, 2);
 }
 
-// Cases 10 and 11 of document 01, after case 5, and where Read's bytes come from.
+// Worked cases 10 and 11, after case 5, and where Read's bytes come from.
 fn case_lines() {
     let mut home = [10u8; 4096];
     home[1024] = 11;

@@ -1,4 +1,4 @@
-// What each call is refused with, by the paper's number, 0 where it is accepted; tested in the paper's order.
+// What each call is refused with, by number, 0 where it is accepted; tested in the order that docs/CALLS.md gives.
 ghost use mathlib.Core.Path.{_≡_};
 ghost use Prim.Native.Nat.{_+_, _≤_};
 ghost use lib.Dec.{leb};

@@ -1,4 +1,4 @@
--- What a walk leads to, turn by turn: the finding of the paper's walk.
+-- What a walk leads to, turn by turn: the finding of the promised walk.
 -- Assumes nothing.
 use mathlib.Core.Path.{_≡_, sym, ap, _∙_, subst}
 use mathlib.Core.Bool.{true, false}
@@ -13,7 +13,7 @@ use Rattle.promises.specs.Walk.{Walk as PaperWalk, walkBlock, inOrder, framed, 
 use Rattle.recovery.specs.Log.{blockOf, blocksFrom}
 use Rattle.recovery.specs.Walking.{Walk, Stands, Refused, Turns, Leads}
 
--- ---- the paper's walk over one block more
+-- ---- the promised walk over one block more
 
 module _ (slots frames : ℕ) (home : ℕ → List ℕ) (next s : ℕ) (block : LogBlock) (rest : List LogBlock) (paper : PaperWalk) where
   walks-out-of-order : inOrder (block .kind) (block .ticket) paper ≡ false → walkFrom slots frames home next s (block ∷ rest) paper ≡ stops 8 s

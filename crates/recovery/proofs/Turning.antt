@@ -1,4 +1,4 @@
--- One block walked over is the paper's turn: an update, a clean and a commit.
+-- One block walked over is one turn of the promised walk: an update, a clean and a commit.
 -- Assumes nothing.
 use mathlib.Core.Path.{_≡_, refl, sym, ap, _∙_, subst}
 use mathlib.Core.Bool.{Bool, true, false, cond}
@@ -74,7 +74,7 @@ each-group Q log home group s (suc n) es f x =
     moved : (i : ℕ) → s + suc i ≡ suc s + i
     moved i = omega arith
 
--- ---- what the code's tests say of the paper's walk
+-- ---- what the code's tests say of the promised walk
 
 module _ (log home : List ℕ) (s : ℕ) (walk : Walk) (frames : List ℕ) (paper : PaperWalk) (st : Stands log home s walk frames paper) where
   group-count : length (paper .group) ≡ walk .stage .count
@@ -355,7 +355,7 @@ module _ (log home : List ℕ) (s : ℕ) (walk : Walk) (frames : List ℕ) (v : 
     }
 
     module _ (paper : PaperWalk) (st : Stands log home s walk frames paper) where
-      -- the group, as the paper's walk has it
+      -- the group, as the promised walk has it
       after : List DirtyPage
       after = applyAll (walk .stage .start) (pageAt home) (updatesFrom log (walk .stage .start) (walk .stage .count)) (paper .dirtyPages)
 

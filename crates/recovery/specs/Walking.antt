@@ -1,4 +1,5 @@
--- The code's walk beside the paper's: what one block makes of it, what it stands for, and what comes of all.
+-- The code's walk beside the promised one (`Walk` of promises, here `PaperWalk`): what one block makes of it, what it stands for, and what
+-- comes of all.
 -- Assumes nothing.
 use Prim.Native.Nat.{ℕ, suc, _+_, _-_, _≤_, _<_}
 use mathlib.Core.Path.{_≡_}
@@ -85,7 +86,7 @@ spanFits table slots next = leb (next - smallest next (firstGroups (table .dirty
 unfoldable pub tested : ℕ → ℕ → Walk → Walk
 tested slots last walk = cond (eqb (walk .stage .refusal) 0) (cond (spanFits (walk .table) slots (last + 1)) walk (refusedAt walk 8 last)) walk
 
--- ---- beside the paper's walk
+-- ---- beside the promised walk
 
 -- the walk may meet the block of this sequence: its half group ends before it, with updates that fit home, and its ticket is below it
 pub record Ready (log home : List ℕ) (sequence : ℕ) (walk : Walk) : Type 0 where
@@ -99,7 +100,7 @@ pub record Ready (log home : List ℕ) (sequence : ℕ) (walk : Walk) : Type 0 w
 abbrev pub Early : ℕ → ℕ → ℕ → ℕ → Type 0
 Early pages sequence page first = (page < pages) × (1 ≤ first) × (first < sequence)
 
--- the walk, before the block of this sequence, and the frames' bytes stand for the paper's walk
+-- the walk, before the block of this sequence, and the frames' bytes stand for the promised walk
 pub record Stands (log home : List ℕ) (sequence : ℕ) (walk : Walk) (frames : List ℕ) (paper : PaperWalk) : Type 0 where
   pub going : walk .stage .refusal ≡ 0
   pub notFull : walk .table .full ≡ false
@@ -114,7 +115,7 @@ pub record Refused (walk : Walk) (refusal place : ℕ) : Type 0 where
   pub refusalIs : walk .stage .refusal ≡ refusal
   pub placeIs : walk .stage .place ≡ place
 
--- what the block of a sequence makes of a walk: nothing once refused; 8, then 9, then the paper's turn
+-- what the block of a sequence makes of a walk: nothing once refused; 8, then 9, then the promised walk's turn
 pub record Turns (log home : List ℕ) (sequence : ℕ) (kind : Kind) (ticket : ℕ) (walk : Walk) (frames : List ℕ) (result : Walk) (frames′ : List ℕ) : Type 0 where
   pub countIs : result .table .count ≡ walk .table .count
   pub stays : (walk .stage .refusal ≡ 0 → ⊥) → result ≡ walk
@@ -126,7 +127,7 @@ pub record Turns (log home : List ℕ) (sequence : ℕ) (kind : Kind) (ticket : 
       → framed (walk .table .count) (pageAt home) kind paper ≡ true
       → Stands log home (suc sequence) result frames′ (walkBlock (pageAt home) sequence kind paper)
 
--- what a walk leads to, with so many blocks left from a sequence on: refused, it is that; otherwise what the paper's walk over them finds
+-- what a walk leads to, with so many blocks left from a sequence on: refused, it is that; otherwise what the promised walk over them finds
 pub record Leads (log home : List ℕ) (slots next sequence more : ℕ) (walk : Walk) (frames : List ℕ) (found : Finding) : Type 0 where
   pub refused : (walk .stage .refusal ≡ 0 → ⊥) → found ≡ stops (walk .stage .refusal) (walk .stage .place)
   pub goes : walk .stage .refusal ≡ 0

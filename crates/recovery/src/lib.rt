@@ -112,7 +112,7 @@ pub fn judge_all(log: &[u8], pages: usize, sequences: &mut [u64]) -> Scan
     Scan { newest, unused }
 }
 
-// The slot that comes after a slot of so many: where a sequence goes to the one, the next goes to the other.
+// The slot after `slot`: if `slot` is that of sequence s, the answer is that of s + 1.
 fn slot_after(slot: usize, slots: usize) -> usize
     requires { ⌜ slot < slots ⌝ }
     ensures { λ r. ⌜ (r < slots) × ((s : ℕ) → slot ≡ slotOf slots s → r ≡ slotOf slots (s + 1)) ⌝ }

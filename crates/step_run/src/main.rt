@@ -233,7 +233,7 @@ fn nothing() -> Dirty {
     Dirty { page: 0, first: 0 }
 }
 
-// The log's part in the life of one transaction: cases 2 and 3 of the paper come out as blocks, then nothing is queued.
+// The log's part in the life of one transaction: worked cases 2 and 3 come out as blocks, then nothing is queued.
 fn life_logged(log: &mut [u8], home: &[u8], frames: &mut [u8], staging: &[u8]) -> State {
     let queued = state_of(1, 0, nothing(), nothing(), 1, 0, Cleaning::Idle);
     let half = logs(queued, log, home, frames, staging, 1);
@@ -241,7 +241,7 @@ fn life_logged(log: &mut [u8], home: &[u8], frames: &mut [u8], staging: &[u8]) -
     logs(dirty, log, home, frames, staging, 3)
 }
 
-// The cleaning's part: the two halves, then case 4 of the paper as a block.
+// The cleaning's part: the two halves, then worked case 4 as a block.
 fn life_cleaned(state: State, log: &mut [u8], home: &mut [u8], frames: &[u8]) -> State {
     let second = cleans(state, log, home, frames, 3, 0);
     let third = cleans(second, log, home, frames, 3, 0);

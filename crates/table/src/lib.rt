@@ -4,8 +4,8 @@ pub mod seats;
 
 use promises::Dirty;
 
-// What the contracts of seats speak of: the dirty pages of so many frames, each in its frame's place. Full: a page found no frame, and
-// nothing is applied any more.
+// What the contracts of seats speak of, and no code uses: the dirty pages of `count` frames, each at its frame's index. `full`: a page found no
+// frame, and nothing is applied any more.
 pub struct Table {
     pub count: usize,
     pub full: bool,

@@ -1,4 +1,4 @@
--- A Begin that waits is accepted in the end, where request k says so.
+-- A Begin that waits is accepted in the end, where `WaitBound` says so.
 -- Assumes nothing.
 use mathlib.Core.Path.{_≡_, refl, sym, ap, _∙_, subst}
 use Prim.Native.Nat.{ℕ, zero, suc, _+_, _*_, _^_, _≤_, _<_}

@@ -40,7 +40,7 @@ pub data Tries (by : Steps) (u : ℕ) (world : World) : ℕ → ℕ → Reply �
   again : {full drained clean world′ : World} {logged cleaned : ℕ} {reply : Reply} → by .steps (begin u) world (refuses 5) full → Until by logStep logged full 10 drained
       → Until by cleanStep cleaned drained 10 clean → by .steps (begin u) clean reply world′ → Tries by u world logged cleaned reply world′
 
--- what document 02 says of it, where it speaks: Begin is accepted in the end, after W Log steps and at most 3 F Clean steps
+-- what `WaitBound` says of it, where it speaks: Begin is accepted in the end, after W Log steps and at most 3 F Clean steps
 pub record KeepsBound (world : World) (result : Waited) : Type 0 where
   pub answerIs : result .answer ≡ Done
   pub loggedIs : result .logged ≡ waitingBlocks (world .state)

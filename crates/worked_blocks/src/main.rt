@@ -1,4 +1,4 @@
-// The paper's worked blocks, for a log of 8 slots and a home of 4 pages. A line for each slot: the case's number, the four
+// Worked blocks (01, "Checked by hand"), for a log of 8 slots and a home of 4 pages. A line for each slot: the case's number, the four
 // check bytes in hex, and what judging says of the slot. For case 8 the offset, the length and whether they are legal.
 use block::Block;
 use block::Judged;
@@ -10,7 +10,7 @@ const SLOTS: u64 = 8;
 
 const PAGES: usize = 4;
 
-// The hex digit of a number below 16, in upper case as in the paper.
+// The hex digit of a number below 16, in upper case.
 fn digit(value: u8) -> u8
     requires { ⌜ value < 16 ⌝ }
 {

@@ -1,6 +1,6 @@
 // Numbers that look random, and the digest of the answers.
 ghost use mathlib.Core.Path.{_≡_};
-ghost use Prim.Native.Nat.{_+_, _*_, _%_, _/_, _^_};
+ghost use Prim.Native.Nat.{_+_, _*_, _%_, _^_};
 
 // The number after x.
 pub fn after(x: u64) -> u64

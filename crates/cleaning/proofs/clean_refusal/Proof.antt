@@ -1,4 +1,4 @@
--- `cleaning::clean_refusal` meets its contract: each test is the paper's, in its order.
+-- `cleaning::clean_refusal` meets its contract: each test is that of `cleanRefusal`, in its order.
 -- Assumes nothing.
 use mathlib.Core.Path.{_≡_, refl, sym, _∙_}
 use mathlib.Core.Bool.{true, false}

@@ -1,4 +1,4 @@
--- `logging::log_refusal` meets its contract: each test is the paper's, in its order.
+-- `logging::log_refusal` meets its contract: each test is that of `logRefusal`, in its order.
 -- Assumes nothing.
 use mathlib.Core.Path.{_≡_, refl, sym, ap, _∙_}
 use mathlib.Core.Bool.{Bool, true, false, _&&_}

@@ -4,7 +4,6 @@ use Prim.Native.Nat.{_-_, _≤_}
 use borrow.Author.Needs.{needs}
 use Rattle.workloads.proofs.reading.reads.Statement.{statement}
 use Rattle.workloads.proofs.reading.reads.Tie as tie
-use Rattle.workloads.proofs.reading.reads.Reads as reads
 
 abbrev Inv-loop : tie.InvT-loop
 Inv-loop log home frames staging count state digest₀ x₀ i₀ digest x i = i ≤ count
