@@ -176,7 +176,7 @@ static bool is_commit(enum workload_number number)
     return number == COMMIT || number == COMMIT_LATE;
 }
 
-/* Those that follow document 01 stand first; C is the one that the others are held to. */
+/* Those that follow the store's rules stand first; C is the one that the others are held to. */
 static const struct subject *const subjects[] = {
     &c_subject,
 #ifdef WITH_PEGRIDOL

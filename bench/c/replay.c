@@ -1,7 +1,7 @@
 /* Reads a script of store calls on standard input and prints one line for each line read.
  *
  * The script language is that of the program `replay`; where it leaves something open, this driver
- * reads it as model/README.md decides. So the model's scripts hold the C store to the same answers
+ * reads it as docs/REPLAY.md says. So the model's scripts hold the C store to the same answers
  * and to the same bytes in log and home:
  *
  *     REPLAY=bench/c/replay tools/compare 2000 1 */

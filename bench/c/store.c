@@ -195,7 +195,7 @@ static bool slot_is_valid(const uint8_t *at, uint32_t slot, uint32_t slots, uint
 
 /* ---- The state -------------------------------------------------------------------------------- */
 
-/* Document 01's sums over a sound state, and what else the test of soundness comes by. */
+/* The rules' sums over a sound state, and what else the test of soundness comes by. */
 struct sums {
     uint64_t oldest;       /* H is next minus this: the oldest of the first groups and of a
                               half-stored group's start, or next itself */

@@ -1,6 +1,6 @@
-/* A page store with a redo log: document 01's nine calls in C.
+/* A page store with a redo log: the nine calls of docs/CALLS.md in C.
  *
- * This is the yardstick of the benchmark. It is written from document 01 alone, by hand, and
+ * This is the yardstick of the benchmark. It is written from the rules alone, by hand, and
  * follows the same rules as the proved store: the same refusals in the same order, the same
  * soundness test at every call, the same bytes in log and home.
  *
@@ -8,7 +8,7 @@
  * leaves the state and every lent byte as they were, but for Open: refused, it leaves the all-zero
  * state, and after 7, 8 and 9 zeroed frames. There is no heap and no global state.
  *
- * Where document 01 leaves a choice to the program: a page takes the lowest free frame, an update
+ * Where the rules leave a choice to the program: a page takes the lowest free frame, an update
  * the lowest free staging area, and of several dirty pages with the smallest first group the lowest
  * page number is cleaned first. */
 #ifndef STORE_H

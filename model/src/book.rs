@@ -1,4 +1,4 @@
-//! The book of demand 3: fed the arguments, which calls were refused, and the cuts. It knows
+//! The book of the crash theorem: fed the arguments, which calls were refused, and the cuts. It knows
 //! nothing of log, state, frames or home after its start.
 
 use crate::block::PAGE_SIZE;

@@ -1,4 +1,4 @@
-//! The calls but Open: each tests its refusals in document 01's order, and changes nothing
+//! The calls but Open: each tests its refusals in the rules' order, and changes nothing
 //! before the last of them is passed.
 
 use crate::block::{
@@ -7,7 +7,7 @@ use crate::block::{
 };
 use crate::state::{Cleaning, DirtyPage, OpenTransaction, StagedUpdate, State};
 
-/// A refusal; its number is document 01's.
+/// A refusal; its number is the rules'.
 #[derive(Clone, Copy, Debug, PartialEq, Eq, PartialOrd, Ord)]
 pub enum Refusal {
     WrongLength = 1,
@@ -29,7 +29,7 @@ impl Refusal {
     }
 }
 
-/// Which of the free frames or staging areas is taken. Document 01 leaves it to the program,
+/// Which of the free frames or staging areas is taken. The rules leave it to the program,
 /// and no answer may depend on it.
 #[derive(Clone, Copy, Debug, PartialEq, Eq)]
 pub enum FreeChoice {

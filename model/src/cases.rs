@@ -1,5 +1,5 @@
-//! The worked cases of document 01: as a script, and as tests against its numbers; and the desks of
-//! document 02's request b and the damaged logs of its request f.
+//! The worked cases of 01, the scope: as a script, and as tests against its numbers; and the desks of
+//! request b of 02 and the damaged logs of its request f.
 
 use crate::block::{encode, Block, Kind, BLOCK_SIZE};
 
@@ -507,7 +507,7 @@ mod tests {
         assert_eq!(found.state.dirty[0].first_group, 2);
     }
 
-    /// The lines that the script of the cases must print, as far as document 01 has them.
+    /// The lines that the script of the cases must print, as far as 01 has them.
     #[test]
     fn script_of_the_cases() {
         let script = script();

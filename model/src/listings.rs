@@ -1,4 +1,4 @@
-//! The logs that program `listing_run` makes, built here from document 01's blocks, and its stored lines held to this model's.
+//! The logs that program `listing_run` makes, built here from the rules' blocks, and its stored lines held to this model's.
 
 use crate::block::{encode, slot_of, Block, Kind, BLOCK_SIZE};
 use crate::logshow;

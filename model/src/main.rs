@@ -1,4 +1,4 @@
-//! A plain and slow model of the page store, written from documents 01 and 02 by itself.
+//! A plain and slow model of the page store, written from the rules alone, never from the code that it checks.
 
 mod block;
 mod book;

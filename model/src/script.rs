@@ -215,7 +215,7 @@ pub struct Runner {
     choice: FreeChoice,
 }
 
-/// Asserts what demand 1 says of every refused call but Open.
+/// Asserts that every refused call but Open changes nothing.
 fn assert_unchanged(before: &Store, after: &Store) {
     assert!(
         before == after,
@@ -320,7 +320,7 @@ impl Runner {
                 let place = *place as usize;
                 if store.log[place] != *value as u8 {
                     store.log[place] = *value as u8;
-                    // Somebody else has written the log: demand 3 says nothing more of it.
+                    // Somebody else has written the log: the crash theorem says nothing more of it.
                     self.watch = None;
                 }
                 Some("poked".to_string())

@@ -77,7 +77,7 @@ impl State {
         }
     }
 
-    // The sums have the letters of document 01 in their comments. They are kept in wide signed
+    // The sums have the letters of the rules in their comments. They are kept in wide signed
     // numbers, so that no state, however unsound, makes them overflow.
 
     /// D, the count of dirty pages.

@@ -2,7 +2,7 @@
 //! and that an opening after each store and each cut is accepted and shows the book's pages; and that
 //! it is refused with 7 if the newest block is damaged. It panics where the model breaks its own book.
 //!
-//! Demand 3 speaks of lists of calls that start at a finished Format, at the same sizes, where
+//! The crash theorem speaks of lists of calls that start at a finished Format, at the same sizes, where
 //! nobody else writes state and areas. A script can leave these lists. The watch then is either
 //! given up (the log is no longer what the calls made of it) or out of step until the next
 //! opening (only the state is not what the last call left).
@@ -60,11 +60,11 @@ impl Watch {
             // right about them.
             return;
         }
-        let ticket = answer.expect("demand 3: the opening is accepted");
+        let ticket = answer.expect("the crash theorem: the opening is accepted");
         assert_eq!(
             ticket,
             self.book.committed(),
-            "demand 3: the opening reports m"
+            "the crash theorem: the opening reports m"
         );
         for page in 0..pages {
             let lent_home = &store.home[..store.lent_home];
@@ -72,7 +72,7 @@ impl Watch {
             let shown = calls::read(&store.state, lent_home, lent_frames, page).unwrap();
             assert!(
                 shown == self.book.page(page),
-                "demand 3: page {page} after an opening"
+                "the crash theorem: page {page} after an opening"
             );
         }
         counts.book_openings += 1;
@@ -93,7 +93,11 @@ impl Watch {
 
     pub fn end(&mut self, ticket: u64, counts: &mut Counts) {
         if self.in_step {
-            assert_eq!(ticket, self.book.end(), "demand 3: the ticket of End");
+            assert_eq!(
+                ticket,
+                self.book.end(),
+                "the crash theorem: the ticket of End"
+            );
             counts.book_answers += 1;
         }
     }
@@ -106,7 +110,7 @@ impl Watch {
         assert_eq!(
             settled,
             self.book.log_step(),
-            "demand 3: the report of Log step"
+            "the crash theorem: the report of Log step"
         );
         counts.book_answers += 1;
         self.try_opening(store, counts);
@@ -126,7 +130,7 @@ impl Watch {
         if self.in_step {
             assert!(
                 bytes == self.book.page(page),
-                "demand 3: Read of page {page}"
+                "the crash theorem: Read of page {page}"
             );
             counts.book_answers += 1;
         }
@@ -134,7 +138,11 @@ impl Watch {
 
     pub fn settled(&mut self, ticket: u64, yes: bool, counts: &mut Counts) {
         if self.in_step {
-            assert_eq!(yes, ticket <= self.book.committed(), "demand 3: Settled");
+            assert_eq!(
+                yes,
+                ticket <= self.book.committed(),
+                "the crash theorem: Settled"
+            );
             counts.book_answers += 1;
         }
     }
@@ -145,7 +153,7 @@ impl Watch {
         self.try_opening(store, counts);
     }
 
-    /// The script sets the state's next. Demand 3 does not cover it. Where nothing in the log is
+    /// The script sets the state's next. The crash theorem does not cover it. Where nothing in the log is
     /// needed any more, a later next only leaves sequences out, and the book stays right; this
     /// is how the book is kept up to the last sequence. Else the state is no longer the one that
     /// the calls left.
@@ -172,18 +180,18 @@ impl Watch {
         let staging = vec![99; frame_count as usize * MAX_UPDATE_LENGTH];
         let choice = FreeChoice::Highest;
         let (state, answer) = recovery::open(&log, &home, &mut frames, &staging, choice);
-        let ticket = answer.expect("demand 3: an opening after a cut is accepted");
+        let ticket = answer.expect("the crash theorem: an opening after a cut is accepted");
         assert_eq!(
             ticket,
             self.book.committed(),
-            "demand 3: an opening after a cut reports m"
+            "the crash theorem: an opening after a cut reports m"
         );
         assert!(state.is_sound());
         for page in 0..pages {
             let shown = calls::read(&state, &home, &frames, page).unwrap();
             assert!(
                 shown == self.book.page(page),
-                "demand 3: page {page} after a cut"
+                "the crash theorem: page {page} after a cut"
             );
         }
         counts.book_openings += 1;
