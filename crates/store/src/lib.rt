@@ -47,8 +47,8 @@ ghost use Rattle.queueing.specs.Queueing.{updateOf};
 
 // Format: makes a new log. All its bytes become zero; what the old log knew is gone.
 //
-// Home is not lent: its bytes, whatever they are, are the pages from now on. It gives no state: an Open must follow. A power cut inside
-// Format is not covered by the crash theorem: format again.
+// Home is not lent: its bytes, whatever they are, are the pages from now on. It gives no state: an Open must follow. A state from before is
+// still taken if it is sound, but the crash theorem no longer speaks of what a call makes of it; nor of a power cut inside Format: format again.
 //
 // Refused: 1 `log` is not 8 to 1,024 whole slots of 512 bytes.
 //
@@ -66,7 +66,8 @@ pub fn format(log: &mut [u8]) -> Answer
 // Open: reads the log, finds what was committed, and gives the state to go on with. To be called at the start, and after every power cut.
 //
 // It never writes log, home or staging. Accepted, it answers the last committed ticket, settled with all before it; committed pages that are
-// not home yet are in `frames`, which frame each is left to the program. Nothing is open or queued: what was when the power was cut is gone.
+// not home yet are in `frames`, which frame each is left to the program. Nothing is open or queued: what was is gone, after a cut or without
+// one, and also if Open is refused.
 //
 // Refused, tested in this order, with a place in the log: 1 (place 0) a length is no whole count in range, or `staging` does not have an
 // area for each frame; 7 a block from keep-from to the newest one is missing or damaged, at the lowest such sequence, then a damaged slot
@@ -274,8 +275,8 @@ pub fn log_step(
 // clean block, slot `state.next % N` of `log`; no other byte changes.
 //
 // Refused, tested in this order, with nothing changed: 2 the state is not sound; 1 an area has another length than at Open; 10 no page is
-// dirty; and where the clean block is next: 11 a transaction has an update in the log but not its commit, so make Log steps first; 6 next + W +
-// (R + 1 if a transaction is open) is 2^48.
+// dirty; and where the clean block is next: 11 the oldest queued transaction has an update stored but not its commit, so make Log steps
+// first; 6 next + W + (R + 1 if a transaction is open) is 2^48.
 //
 // Promise: promises/specs/CleanStep.antt.
 pub fn clean_step(state: State, log: &mut [u8], home: &mut [u8], frames: &[u8]) -> Outcome
