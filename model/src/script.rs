@@ -1,4 +1,4 @@
-//! The script language: one line in, one line out. README.md lists how its open points are read.
+//! The script language: one line in, one line out. docs/REPLAY.md lists how its open points are read.
 
 use crate::block::{read_slot, slot_of};
 use crate::block::{Slot, BLOCK_SIZE, MAX_UPDATE_LENGTH, PAGE_SIZE};

@@ -97,7 +97,7 @@ first-append : {history : List LogBlock} {m : ℕ} (b : LogBlock) {c : Page} →
 first-append b none = none
 first-append b (some g) = some (begins-append b g)
 
--- keepFrom-from of a new block whose own default is d
+-- keep-from of a new block whose own default is d
 keeps : (history : List LogBlock) (m d : ℕ) (home : ℕ → List ℕ) (es : List DirtyPage) → Distinct es
     → ((p : ℕ) → Sees (home p) (lookUp p es) (view history p .page)) → ((p : ℕ) → First history m (view history p .page))
     → BeginsAt history m d → BeginsAt history m (keepFromOf d es)
@@ -184,7 +184,7 @@ good-append : (history : List LogBlock) (m : ℕ) (b : LogBlock) (x : Found) →
 good-append history m b absent g = tt
 good-append history m b (at e) g = begins-append b g
 
--- keepFrom-from of the block that is being stored: d is where its own group begins, or itself
+-- keep-from of the block that is being stored: d is where its own group begins, or itself
 keeps-append : (history : List LogBlock) (m d : ℕ) (b : LogBlock) (home : ℕ → List ℕ) (es : List DirtyPage) → Distinct es
     → ((p : ℕ) → Good history m (lookUp p es))
     → BeginsAt (history ++ (b ∷ [])) (m + isCommit (b .kind)) d → BeginsAt (history ++ (b ∷ [])) (m + isCommit (b .kind)) (keepFromOf d es)

@@ -1,4 +1,4 @@
--- A walk from keepFrom-from on sees what the walk of the whole log sees.
+-- A walk from keep-from on sees what the walk of the whole log sees.
 use mathlib.Core.Path.{_≡_, refl, sym, ap, _∙_, subst}
 use mathlib.Core.Logic.{_⊎_, inl, inr}
 use Prim.Native.Nat.{ℕ, zero, suc, _+_, _≤_, _<_}

@@ -86,7 +86,7 @@ pub sees-here : {h : List ℕ} {x : Found} {c : Page} → Sees h x c → here x 
 sees-here clear = refl
 sees-here (held q) = refl
 
--- a walk from keepFrom-from has no more pages dirty than the history had
+-- a walk from keep-from has no more pages dirty than the history had
 pub same-le : {k : ℕ} {c d : Page} → Same k c d → isDirty d ≤ isDirty c
 same-le same = omega arith
 same-le (stale {c = tidy} h) = omega arith

@@ -1,4 +1,4 @@
--- Where a walk may begin, and that keepFrom-from is such a place.
+-- Where a walk may begin, and that keep-from is such a place.
 use mathlib.Core.Path.{_≡_, refl, sym, ap, _∙_, subst}
 use Prim.Native.Nat.{ℕ, zero, suc, _+_, _-_, _≤_, _<_, min}
 use native.Mathlib.Omega.{arith}
@@ -89,7 +89,7 @@ unfolding keepFromOf
 keepFrom-le d [] = omega arith
 keepFrom-le d (e ∷ es) = omega (arith, keepFrom-le d es)
 
--- keepFrom-from is at most each page's first group
+-- keep-from is at most each page's first group
 pub keepFrom-least : (h : List ℕ) (d p : ℕ) (es : List DirtyPage) (c : Page) → Sees h (lookUp p es) c → AtLeast (keepFromOf d es) c
 unfolding keepFromOf lookUp
 keepFrom-least h d p [] c clear = AtLeast.none
