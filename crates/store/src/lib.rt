@@ -73,7 +73,8 @@ pub fn format(log: &mut [u8]) -> Answer
 // area for each frame; 7 a block from keep-from to the newest one is missing or damaged, at the lowest such sequence, then a damaged slot
 // after the newest, at its sequence (place 0 where no slot is valid); then whichever comes first in the log, 8 a block is out of order, or 9 a
 // commit leaves more pages dirty than there are frames; last 8, at the newest block, the dirty pages could not be cleaned within the log.
-// Refused, it gives the all-zero state, which every other call refuses with 2. After 7, 8 and 9 `frames` is all zero, after 1 as it was.
+// Refused, it gives the all-zero state, which every call that takes a state refuses with 2. After 7, 8 and 9 `frames` is all zero, after 1 as
+// it was.
 //
 // Promise: promises/specs/Open.antt.
 pub fn open(log: &[u8], home: &[u8], frames: &mut [u8], staging: &[u8]) -> OpenOutcome
@@ -162,8 +163,8 @@ pub fn describe(
 
 // End: ends the open transaction. It joins the queue, and its ticket is answered, one above the last ended one.
 //
-// What it reserved and did not use is free again. It is not committed yet: Log steps store it, and a power cut before its commit leaves no
-// trace of it.
+// What it reserved and did not use is free again. It is not committed yet: Log steps store it, and after a power cut before its commit no
+// page shows it.
 //
 // Refused, tested in this order, with nothing changed: 2 the state is not sound; 4 no transaction is open; 10 nothing is described, and the
 // transaction stays open.
