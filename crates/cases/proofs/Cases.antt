@@ -14,7 +14,7 @@ use Rattle.promises.specs.DirtyPages.{lookUp, apply, applyAll, without, keepFro
 use Rattle.promises.specs.Newest.{newest, gather, allUnused, gathered}
 use Rattle.promises.specs.Walk.{walkBlock, inOrder, framed, walkFrom, finding}
 use Rattle.promises.specs.Sums.{firstGroups}
-use Rattle.promises.specs.Sound.{dirtyNumbers, sound}
+use Rattle.promises.specs.Sound.{dirtyNumbers, soundAs}
 use Rattle.promises.specs.Begin.{beginRefusal}
 use Rattle.promises.specs.Read.{readRefusal}
 use Rattle.cases.specs.Case.{Right}
@@ -27,7 +27,7 @@ unfolding starredCases blockCases part toBytes fromBytes plain weighted checkA c
 starred-right = (refl, (refl, (refl, (refl, (refl, (refl, (refl, (refl, (refl, (refl, (refl, (refl, (refl, (refl, tt))))))))))))))
 
 pub further-right : Right furtherCases
-unfolding furtherCases part toBytes fromBytes plain weighted checkA checkB kindOf middle header body check layout legal allZero same numberAt fieldsAt blockAt valid judged put written slotAt slotsFrom lookUp apply applyAll without keepFromOf newest gather allUnused gathered walkBlock inOrder framed walkFrom finding blocksFrom logOf homeBytes told beginRefusal readRefusal sound firstGroups dirtyNumbers
+unfolding furtherCases part toBytes fromBytes plain weighted checkA checkB kindOf middle header body check layout legal allZero same numberAt fieldsAt blockAt valid judged put written slotAt slotsFrom lookUp apply applyAll without keepFromOf newest gather allUnused gathered walkBlock inOrder framed walkFrom finding blocksFrom logOf homeBytes told beginRefusal readRefusal soundAs firstGroups dirtyNumbers
 further-right = (refl, (refl, (refl, tt)))
 
 pub ends-right : Right endCases

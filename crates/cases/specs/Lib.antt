@@ -2,3 +2,4 @@ pub mod Case
 pub mod BlockCases
 pub mod StoreCases
 pub mod EndCases
+pub mod FeedCases

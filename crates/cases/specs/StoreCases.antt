@@ -2,6 +2,7 @@
 -- promises' definitions. 8 slots, 4 pages, 2 frames unless said.
 -- Assumes nothing.
 use Prim.Native.Nat.{ℕ, suc, _-_}
+use mathlib.Core.Bool.{false}
 use mathlib.Core.List.{List, [], _∷_, _++_}
 use lib.ListN.{length, getD, set, replicate}
 use Rattle.promises.specs.declared.State.{State}
@@ -72,6 +73,7 @@ afterCase5 = record {
   reserved = 0;
   described = 0;
   cleaning = Idle;
+  copy = false;
 }
 
 -- the starred cases, 1 to 9: page 0 byte 0 is 42, ticket 1, next 3; home as it was, ticket 0, next 2; nothing dirty, ticket 1, next 4

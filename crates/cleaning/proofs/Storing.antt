@@ -114,4 +114,5 @@ sound-clean s frames page e dirty f none more found holds =
       slotSum = omega (arith, f .slotSum, h, h′, least, count, own);
       frameSum = omega (arith, f .frameSum, count);
       sequenceSum = omega (arith, f .sequenceSum, more);
+      mark = f .mark;
     })

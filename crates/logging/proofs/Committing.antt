@@ -179,4 +179,5 @@ module _ (s : State) (f : Sound s) (some : 1 â‰¤ s .queued) (whole : sizeOf s â‰
         slotSum = omega (arith, f .slotSum, f .ticket, h, k, t, b, keep-least, count-most, stored-is);
         frameSum = omega (arith, f .frameSum, t, count-most);
         sequenceSum = omega (arith, f .sequenceSum, b, stored-is);
+        mark = f .mark;
       })

@@ -91,7 +91,7 @@ pub fn store_update(state: State, log: &mut [u8], staging: &[u8], keep_from: u64
 }
 
 // The dirty pages of a state as seats, a number for each frame.
-fn pack(dirty: [Dirty; 32], seats: &mut [u64])
+pub fn pack(dirty: [Dirty; 32], seats: &mut [u64])
     requires { ⌜ (length (now seats) ≤ 32) × ((i : ℕ) → getD dirty i free .first < sequenceEnd) ⌝ }
     ensures { λ _. ⌜ (length (now (seats .exit)) ≡ length (now (seats .entry))) × (map entryIn (now (seats .exit)) ≡ map cleared (take (length (now (seats .entry))) dirty)) ⌝ }
 {

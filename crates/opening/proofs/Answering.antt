@@ -2,8 +2,8 @@
 -- Assumes nothing.
 use mathlib.Core.Path.{_≡_, refl, sym, ap, _∙_, subst}
 use mathlib.Core.Bool.{Bool, true, false, cond}
-use mathlib.Core.List.{List, [], _∷_}
-use Prim.Native.Nat.{ℕ, _+_, _-_, _*_, _^_, _≤_}
+use mathlib.Core.List.{List, [], _∷_, _++_}
+use Prim.Native.Nat.{ℕ, _+_, _-_, _*_, _^_, _≤_, _<_}
 use native.Mathlib.Omega.{arith}
 use lib.ListN.{length, drop, getD, replicate}
 use Rattle.area.proofs.Laws.{getD-all}
@@ -15,14 +15,14 @@ use Rattle.promises.specs.declared.OpenOutcome.{OpenOutcome}
 use Rattle.promises.specs.Areas.{slotsIn, pagesIn, framesIn}
 use Rattle.promises.specs.Answers.{refuses, settles, openAnswered, placeIn}
 use Rattle.promises.specs.Contents.{contentsOf, dirtyOf, grouped}
-use Rattle.promises.specs.States.{free, allZeroState, setDirty, Fills}
+use Rattle.promises.specs.States.{free, allZeroState, emptyState, setBlock, setDirty, setStored, Fills}
 use Rattle.promises.specs.DirtyPages.{DirtyPage, lookUp}
 use Rattle.promises.specs.Newest.{newest}
-use Rattle.promises.specs.Sums.{firstGroups, smallest}
-use Rattle.promises.specs.Sound.{sound, allBelow, dirtyNumbers}
-use Rattle.promises.specs.Walk.{Walk as PaperWalk, stops, stands, finding}
+use Rattle.promises.specs.Sums.{firstGroups, halfStarts, smallest}
+use Rattle.promises.specs.Sound.{sound, allBelow, dirtyNumbers, halfGroupSound, markSound}
+use Rattle.promises.specs.Walk.{Walk as PaperWalk, Finding, stops, stands, finding}
 use Rattle.promises.specs.Open.{lengthsFit, openFinding, opened, openedState, OpenStops, OpenStands, Opens}
-use Rattle.promises.proofs.Soundness.{Sound, of-sound}
+use Rattle.promises.proofs.Soundness.{SoundAs, Sound, of-sound}
 use Rattle.promises.proofs.OpenFindings.{finding-refusals}
 use Rattle.table.specs.Table.{Holds, Each}
 use Rattle.table.proofs.Entries.{within-most}
@@ -68,8 +68,57 @@ module _ (log home : List ℕ) (count : ℕ) (found : FoundWalk) (frames : List 
 
 -- ---- the frames' entries: none was in use before
 
-entries-filled : (dirty : List Dirty) → length dirty ≡ 32 → ((f : ℕ) → getD dirty f free .first ≡ 0 → getD dirty f free ≡ free) → Fills (allZeroState .dirty) dirty
+pub entries-filled : (dirty : List Dirty) → length dirty ≡ 32 → ((f : ℕ) → getD dirty f free .first ≡ 0 → getD dirty f free ≡ free) → Fills (allZeroState .dirty) dirty
 entries-filled dirty full zeroes = record { count = full; kept = λ f used. absurd (used (ap (λ (d : Dirty). d .first) (getD-all 32 f free))); freeZero = zeroes }
+
+-- ---- the state of an accepted walk is sound, as a desk's or as a copy's
+
+abbrev pub stateAs : Bool → ℕ → ℕ → ℕ → ℕ → ℕ → List Dirty → ℕ → State
+stateAs copy pages slots frames next ticket dirty stored = setStored (setDirty (setBlock (emptyState copy pages slots frames) next ticket) dirty) stored
+
+module _ (log home : List ℕ) (found : Finding) (result : FoundWalk) (frames : List ℕ) (acc : Accepts log home found result frames) where
+  below : (es : List DirtyPage) → Each (Early (pagesIn (length home)) (result .newest + 1)) es → Each (Below (pagesIn (length home)) (result .newest + 1)) es
+  below [] e = tt
+  below (d ∷ es) e = ((e .0 .0, e .0 .2), below es (e .1))
+
+  bounds : (allBelow (pagesIn (length home)) (dirtyNumbers (result .walk .table .dirty)) ≡ true)
+      × (allBelow (result .newest + 1) (firstGroups (result .walk .table .dirty)) ≡ true)
+  bounds =
+      held-below (pagesIn (length home)) (result .newest + 1) (result .walk .table) frames (acc .paper .dirtyPages) (acc .standsFor .holds)
+      (below (acc .paper .dirtyPages) (acc .standsFor .early))
+
+  module _ (lent staging : ℕ) (told : Lengths (length log) (length home) lent staging) (counted : result .walk .table .count ≡ framesIn lent) (copy : Bool) (stored : ℕ) where
+    -- with so many updates of a half group stored
+    abbrev pub walkState : State
+    walkState = stateAs copy (pagesIn (length home)) (slotsIn (length log)) (framesIn lent) (result .newest + 1) (result .walk .stage .ticket) (result .walk .table .dirty) stored
+
+    pub state-sound : result .walk .stage .ticket < result .newest + 1 - stored → halfGroupSound copy walkState ≡ true → markSound copy walkState ≡ true
+        → result .newest + 1 - smallest (result .newest + 1) (halfStarts walkState ++ firstGroups (result .walk .table .dirty)) + length (firstGroups (result .walk .table .dirty)) ≤ slotsIn (length log)
+        → SoundAs copy walkState
+    state-sound early half mark span = record {
+      pages = (told .pagesLeast, told .pagesMost);
+      slots = (told .slotsLeast, told .slotsMost);
+      frames = (told .framesLeast, told .framesMost);
+      distinctPages = acc .standsFor .holds .tableDistinct;
+      pagesBelow = bounds .0;
+      framesBelow = ap (λ (n : ℕ). length (firstGroups (drop n (result .walk .table .dirty)))) (sym counted) ∙ acc .standsFor .holds .within;
+      firstsBelow = bounds .1;
+      ticket = early;
+      distinctAreas = refl;
+      areasBelow = refl;
+      places = refl;
+      groups = refl;
+      queued = omega arith;
+      staged = omega arith;
+      reserved = omega arith;
+      described = omega arith;
+      stored = half;
+      cleaning = refl;
+      slotSum = omega (arith, span);
+      frameSum = omega (arith, within-most (result .walk .table .count) (result .walk .table .dirty) (acc .standsFor .holds .within), counted);
+      sequenceSum = omega (arith, acc .newestBelow);
+      mark = mark;
+    }
 
 -- ---- from the finding to the promise
 
@@ -143,47 +192,13 @@ module _ (log home frames staging : List ℕ) (r : OpenOutcome) (frames′ : Lis
       abbrev state : State
       state = openedState (pagesIn (length home)) (slotsIn (length log)) (framesIn (length frames)) (found .newest + 1) (found .walk .stage .ticket) (found .walk .table .dirty)
 
-      below : (es : List DirtyPage) → Each (Early (pagesIn (length home)) (found .newest + 1)) es → Each (Below (pagesIn (length home)) (found .newest + 1)) es
-      below [] e = tt
-      below (d ∷ es) e = ((e .0 .0, e .0 .2), below es (e .1))
-
       holds : Holds (found .walk .table) mid (acc .paper .dirtyPages)
       holds = acc .standsFor .holds
 
-      bounds : (allBelow (pagesIn (length home)) (dirtyNumbers (found .walk .table .dirty)) ≡ true)
-          × (allBelow (found .newest + 1) (firstGroups (found .walk .table .dirty)) ≡ true)
-      bounds = held-below (pagesIn (length home)) (found .newest + 1) (found .walk .table) mid (acc .paper .dirtyPages) holds (below (acc .paper .dirtyPages) (acc .standsFor .early))
-
-      few : length (firstGroups (found .walk .table .dirty)) ≤ framesIn (length frames)
-      few = omega (arith, within-most (found .walk .table .count) (found .walk .table .dirty) (holds .within), x .countIs)
-
-      span : found .newest + 1 - smallest (found .newest + 1) (firstGroups (found .walk .table .dirty)) + length (firstGroups (found .walk .table .dirty)) ≤ slotsIn (length log)
-      span = leb-true _ _ (acc .spanWithin)
-
-      sound-facts : Sound state
-      sound-facts = record {
-        pages = (told .pagesLeast, told .pagesMost);
-        slots = (told .slotsLeast, told .slotsMost);
-        frames = (told .framesLeast, told .framesMost);
-        distinctPages = holds .tableDistinct;
-        pagesBelow = bounds .0;
-        framesBelow = ap (λ (n : ℕ). length (firstGroups (drop n (found .walk .table .dirty)))) (sym (x .countIs)) ∙ holds .within;
-        firstsBelow = bounds .1;
-        ticket = omega (arith, acc .ticketBelow);
-        distinctAreas = refl;
-        areasBelow = refl;
-        places = refl;
-        groups = refl;
-        queued = omega arith;
-        staged = omega arith;
-        reserved = omega arith;
-        described = omega arith;
-        stored = refl;
-        cleaning = refl;
-        slotSum = omega (arith, span);
-        frameSum = omega (arith, few);
-        sequenceSum = omega (arith, acc .newestBelow);
-      }
+      stays-sound : Sound state
+      stays-sound =
+          state-sound log home _ found mid acc (length frames) (length staging) told (x .countIs) false 0 (omega (arith, acc .ready .ticketBelow)) refl refl
+          (leb-true _ _ (acc .spanWithin))
 
       pub opens-accepted : openAnswered (r .answer) ≡ settles (found .walk .stage .ticket) → r .state ≡ state → length (found .walk .table .dirty) ≡ 32
           → ((f : ℕ) → getD (found .walk .table .dirty) f free .first ≡ 0 → getD (found .walk .table .dirty) f free ≡ free) → length mid ≡ length frames → frames′ ≡ mid
@@ -197,7 +212,7 @@ module _ (log home frames staging : List ℕ) (r : OpenOutcome) (frames′ : Lis
             fills = subst (λ (y : State). Fills (allZeroState .dirty) (y .dirty)) (sym s) (entries-filled (found .walk .table .dirty) full zeroes);
             stateIs = s ∙ ap (λ (y : State). setDirty state (y .dirty)) (sym s)
                 ∙ ap (λ (t : ℕ). openedState (pagesIn (length home)) (slotsIn (length log)) (framesIn (length frames)) (found .newest + 1) t (r .state .dirty)) (acc .standsFor .ticketIs);
-            staysSound = ap sound s ∙ of-sound state sound-facts;
+            staysSound = ap sound s ∙ of-sound state stays-sound;
             contentsAre = λ staging′. ap (λ (y : State). contentsOf y staging′) s
                 ∙ ap (opened (pagesIn (length home)) (slotsIn (length log)) (framesIn (length frames)) (found .newest + 1)) (acc .standsFor .ticketIs);
             dirtyAre = λ page. ap (λ (y : State). lookUp page (dirtyOf y frames′)) s

@@ -41,6 +41,7 @@ start-ready log home first count ticket h = record {
   begins = λ x. absurd (omega arith);
   few = omega arith;
   ticketBelow = h;
+  ticketEarly = λ x. absurd (omega arith);
   placed = λ i x. absurd (omega arith);
 }
 
@@ -65,12 +66,12 @@ start-leads log home frames slots next first more count ticket = record {
 
 -- ---- the end
 
--- the code's last test is that of `ending`
-span-is : (log home : List ℕ) (s : ℕ) (walk : Walk) (frames : List ℕ) (paper : PaperWalk) (slots next : ℕ) → Stands log home s walk frames paper
-    → spanFits (walk .table) slots next ≡ leb (next - keepFromOf next (paper .dirtyPages) + length (paper .dirtyPages)) slots
-span-is log home s walk frames paper slots next st =
-    ap (λ (k : ℕ). leb (next - k + length (Rattle.promises.specs.Sums.firstGroups (walk .table .dirty))) slots) (held-keep (walk .table) frames (paper .dirtyPages) (st .holds) next)
-    ∙ ap (λ (d : ℕ). leb (next - keepFromOf next (paper .dirtyPages) + d) slots) (held-count (walk .table) frames (paper .dirtyPages) (st .holds))
+-- the code's test is that of the promised walk; with next as the own number, that of `ending`
+pub span-is : (log home : List ℕ) (s : ℕ) (walk : Walk) (frames : List ℕ) (paper : PaperWalk) (slots next own : ℕ) → Stands log home s walk frames paper
+    → spanFits (walk .table) slots next own ≡ leb (next - keepFromOf own (paper .dirtyPages) + length (paper .dirtyPages)) slots
+span-is log home s walk frames paper slots next own st =
+    ap (λ (k : ℕ). leb (next - k + length (Rattle.promises.specs.Sums.firstGroups (walk .table .dirty))) slots) (held-keep (walk .table) frames (paper .dirtyPages) (st .holds) own)
+    ∙ ap (λ (d : ℕ). leb (next - keepFromOf own (paper .dirtyPages) + d) slots) (held-count (walk .table) frames (paper .dirtyPages) (st .holds))
 
 module _ (log home : List ℕ) (last : ℕ) (walk : Walk) (frames : List ℕ) (found : Finding) (below : last < sequenceEnd)
     (ready : walk .stage .refusal ≡ 0 → Ready log home (last + 1) walk)
@@ -83,7 +84,7 @@ module _ (log home : List ℕ) (last : ℕ) (walk : Walk) (frames : List ℕ) (f
   unfolding walkFrom blocksFrom
   over z = l .goes z .2
 
-  passes : (z : walk .stage .refusal ≡ 0) → spanFits (walk .table) N (last + 1) ≡ true → Finds log home (walk .table .count) found (record { newest = last; walk = walk }) frames
+  passes : (z : walk .stage .refusal ≡ 0) → spanFits (walk .table) N (last + 1) (last + 1) ≡ true → Finds log home (walk .table .count) found (record { newest = last; walk = walk }) frames
   passes z f =
       let st : Stands log home (last + 1) walk frames (l .goes z .0) = l .goes z .1 in
       record {
@@ -92,22 +93,22 @@ module _ (log home : List ℕ) (last : ℕ) (walk : Walk) (frames : List ℕ) (f
         accepted = λ y. record {
           paper = l .goes z .0;
           foundIs = sym (over z)
-              ∙ ap (λ (b : Bool). cond b (stands (last + 1) (l .goes z .0)) (stops 8 (last + 1 - 1))) (sym (span-is log home (last + 1) walk frames (l .goes z .0) N (last + 1) st) ∙ f);
+              ∙ ap (λ (b : Bool). cond b (stands (last + 1) (l .goes z .0)) (stops 8 (last + 1 - 1))) (sym (span-is log home (last + 1) walk frames (l .goes z .0) N (last + 1) (last + 1) st) ∙ f);
           standsFor = st;
-          ticketBelow = ready z .ticketBelow;
+          ready = ready z;
           spanWithin = f;
           newestBelow = below;
         };
       }
 
-  fails : (z : walk .stage .refusal ≡ 0) → spanFits (walk .table) N (last + 1) ≡ false
+  fails : (z : walk .stage .refusal ≡ 0) → spanFits (walk .table) N (last + 1) (last + 1) ≡ false
       → Finds log home (walk .table .count) found (record { newest = last; walk = refusedAt walk 8 last }) frames
   fails z f =
       let st : Stands log home (last + 1) walk frames (l .goes z .0) = l .goes z .1 in
       record {
         countIs = refl;
         refused = λ n. sym (over z)
-            ∙ ap (λ (b : Bool). cond b (stands (last + 1) (l .goes z .0)) (stops 8 (last + 1 - 1))) (sym (span-is log home (last + 1) walk frames (l .goes z .0) N (last + 1) st) ∙ f)
+            ∙ ap (λ (b : Bool). cond b (stands (last + 1) (l .goes z .0)) (stops 8 (last + 1 - 1))) (sym (span-is log home (last + 1) walk frames (l .goes z .0) N (last + 1) (last + 1) st) ∙ f)
             ∙ ap (stops 8) one-less;
         accepted = λ y. absurd (omega arith);
       }
@@ -119,7 +120,7 @@ module _ (log home : List ℕ) (last : ℕ) (walk : Walk) (frames : List ℕ) (f
   ends r e =
       subst (λ (w : Walk). Finds log home (walk .table .count) found (record { newest = last; walk = w }) frames) (sym e)
       (elim (ℕ-discrete (walk .stage .refusal) 0) [
-        | yes z ↦ by-cases (spanFits (walk .table) N (last + 1))
+        | yes z ↦ by-cases (spanFits (walk .table) N (last + 1) (last + 1))
             (λ f. subst (λ (w : Walk). Finds log home (walk .table .count) found (record { newest = last; walk = w }) frames) (tested-by N last walk true z f) (passes z f))
             (λ f. subst (λ (w : Walk). Finds log home (walk .table .count) found (record { newest = last; walk = w }) frames) (tested-by N last walk false z f) (fails z f))
         | no n ↦ subst (λ (w : Walk). Finds log home (walk .table .count) found (record { newest = last; walk = w }) frames) (tested-not N last walk n)

@@ -28,17 +28,17 @@ use Rattle.recovery.specs.Log.{headerOf, blockOf, blocksFrom, Legal}
 -- ---- a slot whose sequence is not 0 holds the block that its header tells
 
 -- a slot's block, as the walk sees it
-blockIs : List ℕ → LogBlock
+abbrev pub blockIs : List ℕ → LogBlock
 blockIs bytes = record { kind = kindIn (blockAt bytes .kind) bytes; keepFrom = blockAt bytes .«keep_from»; ticket = blockAt bytes .ticket }
 
-record Holding (N P : ℕ) (log : List ℕ) (j q : ℕ) : Type 0 where
-  slotIs : slotAt N P log j ≡ valid q (blockIs (slotBytes log j))
-  rules : legal N P (blockAt (slotBytes log j)) ≡ true
-  sequenceIs : blockAt (slotBytes log j) .sequence ≡ q
-  placeIs : slotOf N q ≡ j
+pub record Holding (N P : ℕ) (log : List ℕ) (j q : ℕ) : Type 0 where
+  pub slotIs : slotAt N P log j ≡ valid q (blockIs (slotBytes log j))
+  pub rules : legal N P (blockAt (slotBytes log j)) ≡ true
+  pub sequenceIs : blockAt (slotBytes log j) .sequence ≡ q
+  pub placeIs : slotOf N q ≡ j
 
-holding : (N P : ℕ) (log : List ℕ) (j q : ℕ) → (q ≡ 0 → ⊥) → sequenceIn (slotAt N P log j) ≡ q → Holding N P log j q
-unfolding slotAt blockIs
+pub holding : (N P : ℕ) (log : List ℕ) (j q : ℕ) → (q ≡ 0 → ⊥) → sequenceIn (slotAt N P log j) ≡ q → Holding N P log j q
+unfolding slotAt
 holding N P log j q n e = go (judged N P j bytes) refl e
   where
     bytes : List ℕ
@@ -79,7 +79,7 @@ module _ (log home : List ℕ) (big : 512 ≤ length log) where
 
   -- a sequence that stands in its slot
   pub stands-valid : (s : ℕ) → 1 ≤ s → sequenceIn (slotAt N P log (slotOf N s)) ≡ s → getD slots (slotOf N s) unused ≡ valid s (blockOf log s)
-  unfolding headerOf blockIs
+  unfolding headerOf
   stands-valid s h e = at-slot s ∙ holding N P log (slotOf N s) s (λ z. absurd (omega arith)) e .slotIs
 
   pub stands-legal : (s : ℕ) → 1 ≤ s → sequenceIn (slotAt N P log (slotOf N s)) ≡ s → Legal log home s

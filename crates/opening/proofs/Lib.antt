@@ -3,3 +3,5 @@ pub mod Ending
 pub mod Lending
 pub mod Reading
 pub mod Answering
+pub mod Keeping
+pub mod CopyAnswering

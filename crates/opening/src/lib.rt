@@ -1,4 +1,5 @@
-// Open: the lent lengths, then the log, judged and walked over, then the answer. It never writes log, home or staging.
+// Open: the lent lengths, then the log, judged and walked over, then the answer. It never writes log, home or staging. The opening of a
+// copy is the same, but it has no staging and keeps a half group.
 use block::Block;
 use promises::OpenOutcome;
 use promises::Opened;
@@ -16,8 +17,10 @@ ghost use Rattle.promises.specs.Answers.{refuses, numberOf, openAnswered, place
 ghost use Rattle.promises.specs.States.{allZeroState};
 ghost use Rattle.promises.specs.Walk.{walkFrom, startWith, finding};
 ghost use Rattle.promises.specs.Open.{lengthsFit, Opens};
+ghost use Rattle.promises.specs.CopyOpen.{copyLengthsFit, OpensCopy};
 ghost use Rattle.recovery.specs.Log.{blocksFrom, Legal};
-ghost use Rattle.opening.specs.Findings.{stageStart, foundStopped, foundOf, Finds};
+ghost use Rattle.recovery.specs.Walking.{walkOf};
+ghost use Rattle.opening.specs.Findings.{stageStart, foundStopped, foundOf, Finds, keptFrom, Testable, kept, Keeps};
 
 // What was found in a log: where the walk ended, and the newest sequence.
 pub struct Found {
@@ -169,6 +172,76 @@ pub fn open(log: &[u8], home: &[u8], frames: &mut [u8], staging: &[u8]) -> OpenO
     let slots = log.len() / Block::SIZE;
     OpenOutcome {
         state: State::idle(pages, slots, count, found.newest + 1, stage.ticket, dirty),
+        answer: Opened::Settled(stage.ticket),
+    }
+}
+
+// Whether the lent lengths are whole counts in range, as for Open, where staging is of their count.
+fn copy_lengths_fit(log: usize, home: usize, frames: usize) -> bool
+    ensures { λ r. ⌜ r ≡ copyLengthsFit log home frames ⌝ }
+{
+    lengths_fit(log, home, frames, frames / Block::PAGE * Block::NEW_BYTES)
+}
+
+// Where a half group starts; next where there is none.
+fn kept_from(stage: Stage, next: u64) -> u64
+    ensures { λ r. ⌜ r ≡ keptFrom stage next ⌝ }
+{
+    if stage.count == 0 { next } else { stage.start }
+}
+
+// The last test of a copy: as Open's, but a half group's start counts.
+fn kept_test(stage: Stage, seats: &[u64], slots: usize, last: u64) -> Stage
+    requires { ⌜ (length (now seats) ≤ 32) × (slots ≤ 1024) × (stage .refusal ≡ 0 → Testable stage last) ⌝ }
+    ensures { λ r. ⌜ walkOf r (now (seats .entry)) ≡ kept slots last (walkOf stage (now (seats .entry))) ⌝ }
+{
+    if stage.refusal != 0 {
+        return stage;
+    }
+    let next = last + 1;
+    let from = kept_from(stage, next);
+    if !recovery::span_fits(seats, slots, next, from) {
+        return recovery::refused(stage, 8, last);
+    }
+    stage
+}
+
+// What a log of right length holds for a copy.
+fn read_kept(seats: &mut [u64], log: &[u8], home: &[u8], frames: &mut [u8]) -> Found
+    requires { ⌜ (length (now log) ≡ slotsIn (length (now log)) * blockSize) × (8 ≤ slotsIn (length (now log))) × (slotsIn (length (now log)) ≤ 1024) × (pagesIn (length (now home)) ≤ 4096) × (length (now frames) ≡ framesIn (length (now frames)) * pageSize) × (framesIn (length (now frames)) ≤ 32) × (now seats ≡ replicate (framesIn (length (now frames))) 0) ⌝ }
+    ensures { λ r. ⌜ Keeps (now (log .entry)) (now (home .entry)) (framesIn (length (now (frames .entry)))) (finding (slotsIn (length (now (log .entry)))) (pagesIn (length (now (home .entry)))) (framesIn (length (now (frames .entry)))) (now (log .entry)) (now (home .entry))) (foundOf r (now (seats .exit))) (now (frames .exit)) ⌝ }
+{
+    let slots = log.len() / Block::SIZE;
+    let found = read_log(seats, log, home, frames);
+    Found {
+        newest: found.newest,
+        stage: kept_test(found.stage, seats, slots, found.newest),
+    }
+}
+
+// The opening of a copy: as Open, but a half group at the log's end is kept, and its start counts in H + D.
+pub fn open_copy(log: &[u8], home: &[u8], frames: &mut [u8]) -> OpenOutcome
+    ensures { λ r. ⌜ OpensCopy (now (log .entry)) (now (home .entry)) (now (frames .entry)) r (now (frames .exit)) ⌝ }
+{
+    if !copy_lengths_fit(log.len(), home.len(), frames.len()) {
+        return refused(Refusal::WrongLength, 0);
+    }
+    let count = frames.len() / Block::PAGE;
+    let mut seats = [0; 32];
+    let found = read_kept(&mut seats[..count], log, home, frames);
+    let stage = found.stage;
+    clear_refused(frames, stage.refusal);
+    if stage.refusal != 0 {
+        return refused(Refusal::of_number(stage.refusal), stage.place);
+    }
+    let dirty = table::seats::entries(&seats[..count]);
+    let pages = home.len() / Block::PAGE;
+    let slots = log.len() / Block::SIZE;
+    let mut state = State::idle(pages, slots, count, found.newest + 1, stage.ticket, dirty);
+    state.stored = stage.count;
+    state.copy = true;
+    OpenOutcome {
+        state,
         answer: Opened::Settled(stage.ticket),
     }
 }

@@ -59,14 +59,14 @@ marks-apply group home u (e ∷ es) =
     (λ t. rw t)
     (λ t. rw t (ap (λ (ms : List Mark). record { page = e .page; first = e .first } ∷ ms) (marks-apply group home u es)))
 
-marks-apply-all : (group : ℕ) (home : ℕ → List ℕ) (us : List Update) (es : List DirtyPage)
+pub marks-apply-all : (group : ℕ) (home : ℕ → List ℕ) (us : List Update) (es : List DirtyPage)
     → marksOf (applyAll group home us es) ≡ markedAll group (pagesOf us) (marksOf es)
 unfolding applyAll markedAll
 marks-apply-all group home [] es = refl
 marks-apply-all group home (u ∷ us) es =
     marks-apply-all group home us (apply group home u es) ∙ ap (markedAll group (pagesOf us)) (marks-apply group home u es)
 
-marks-without : (page : ℕ) (es : List DirtyPage) → marksOf (without page es) ≡ unmarked page (marksOf es)
+pub marks-without : (page : ℕ) (es : List DirtyPage) → marksOf (without page es) ≡ unmarked page (marksOf es)
 unfolding without unmarked
 marks-without page [] = refl
 marks-without page (e ∷ es) =
@@ -74,20 +74,20 @@ marks-without page (e ∷ es) =
     (λ t. rw t (marks-without page es))
     (λ t. rw t (ap (λ (ms : List Mark). record { page = e .page; first = e .first } ∷ ms) (marks-without page es)))
 
-marks-earliest : (own : ℕ) (es : List DirtyPage) → keepFromOf own es ≡ earliest own (marksOf es)
+pub marks-earliest : (own : ℕ) (es : List DirtyPage) → keepFromOf own es ≡ earliest own (marksOf es)
 unfolding keepFromOf earliest
 marks-earliest own [] = refl
 marks-earliest own (e ∷ es) = ap (min (e .first)) (marks-earliest own es)
 
-marks-length : (es : List DirtyPage) → length es ≡ length (marksOf es)
+pub marks-length : (es : List DirtyPage) → length es ≡ length (marksOf es)
 marks-length [] = refl
 marks-length (e ∷ es) = ap suc (marks-length es)
 
-pages-length : (us : List Update) → length us ≡ length (pagesOf us)
+pub pages-length : (us : List Update) → length us ≡ length (pagesOf us)
 pages-length [] = refl
 pages-length (u ∷ us) = ap suc (pages-length us)
 
-pages-snoc : (us : List Update) (u : Update) → pagesOf (us ++ (u ∷ [])) ≡ pagesOf us ++ (u .page ∷ [])
+pub pages-snoc : (us : List Update) (u : Update) → pagesOf (us ++ (u ∷ [])) ≡ pagesOf us ++ (u .page ∷ [])
 pages-snoc [] u = refl
 pages-snoc (v ∷ us) u = ap (λ (ps : List ℕ). v .page ∷ ps) (pages-snoc us u)
 

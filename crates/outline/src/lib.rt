@@ -45,6 +45,16 @@ pub struct Course {
     pub marks: Marks,
 }
 
+// No dirty page.
+pub fn no_marks() -> Marks
+    ensures { λ r. ⌜ (marksIn r ≡ []) × (r .count ≡ 0) ⌝ }
+{
+    Marks {
+        count: 0,
+        entries: [Mark { page: 0, first: 0 }; 48],
+    }
+}
+
 // The place of a page; the count where it is not there.
 fn place_of(marks: Marks, page: usize) -> usize
     requires { ⌜ marks .count ≤ 48 ⌝ }
@@ -78,7 +88,7 @@ fn mark_page(marks: Marks, page: usize, group: u64) -> Marks
 }
 
 // The pages of a group are dirty.
-fn mark_group(marks: Marks, group: Group) -> Marks
+pub fn mark_group(marks: Marks, group: Group) -> Marks
     requires { ⌜ (marks .count ≤ 32) × (group .count ≤ groupMost) ⌝ }
     ensures { λ r. ⌜ (marksIn r ≡ markedAll (group .start) (pagesIn group) (marksIn marks)) × (r .count ≤ 48) ⌝ }
 {
@@ -93,7 +103,7 @@ fn mark_group(marks: Marks, group: Group) -> Marks
 }
 
 // A page is dirty no more.
-fn unmark_page(marks: Marks, page: usize) -> Marks
+pub fn unmark_page(marks: Marks, page: usize) -> Marks
     requires { ⌜ marks .count ≤ 48 ⌝ }
     ensures { λ r. ⌜ (marksIn r ≡ unmarked page (marksIn marks)) × (r .count ≤ marks .count) ⌝ }
 {
@@ -114,7 +124,7 @@ fn unmark_page(marks: Marks, page: usize) -> Marks
 }
 
 // The smallest first group, and own where there is none.
-fn earliest(marks: Marks, own: u64) -> u64
+pub fn earliest(marks: Marks, own: u64) -> u64
     requires { ⌜ marks .count ≤ 48 ⌝ }
     ensures { λ r. ⌜ (r ≡ earliestOf own (marksIn marks)) × (r ≤ own) ⌝ }
 {
@@ -266,10 +276,7 @@ pub fn start(sequence: u64, ticket: u64) -> Course
         place: sequence,
         ticket,
         group: no_group(),
-        marks: Marks {
-            count: 0,
-            entries: [Mark { page: 0, first: 0 }; 48],
-        },
+        marks: no_marks(),
     }
 }
 

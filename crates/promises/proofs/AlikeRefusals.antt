@@ -12,7 +12,7 @@ use Rattle.promises.specs.declared.Cleaning.{Cleaning}
 use Rattle.promises.specs.Updates.{Update}
 use Rattle.promises.specs.Contents.{Contents, contentsOf, dirtyOf, groupsOf, grouped, queueOf, waiting, total}
 use Rattle.promises.specs.Sums.{firstGroups, halfStarts, smallest, dirtyCount, heldSlots}
-use Rattle.promises.specs.Sound.{sound}
+use Rattle.promises.specs.Sound.{sound, readable}
 use Rattle.promises.specs.declared.Cleaning.the-variants.{Idle, First, Second, Third}
 use Rattle.promises.specs.Begin.{beginRefusal}
 use Rattle.promises.specs.Describe.{describeRefusal}
@@ -23,7 +23,7 @@ use Rattle.promises.specs.Read.{readRefusal, readRefusalOf}
 use Rattle.promises.specs.Settled.{settledRefusal}
 use Rattle.promises.specs.Events.{World}
 use Rattle.promises.specs.Alike.{Alike}
-use Rattle.promises.proofs.Soundness.{Sound, sound-of}
+use Rattle.promises.proofs.Soundness.{Sound, sound-of, readable-desk}
 use Rattle.promises.proofs.Changes.{held-is}
 use Rattle.promises.proofs.SoundFacts.{length-dirty, keepFrom-dirty, distinct-dirty, length-list, length-queue}
 use Rattle.promises.proofs.History.WalkStart.{Distinct}
@@ -86,6 +86,10 @@ module _ (w v : World) (a : Alike w v) where
       go : (b : Bool) → sound s ≡ b → cond b m k ≡ cond b n k
       go true e = h e
       go false e = refl
+
+  -- and to Read and Settled
+  by-readable : (m n k : ℕ) → (sound s ≡ true → m ≡ n) → cond (readable s) m k ≡ cond (readable t) n k
+  by-readable m n k h = rw (readable-desk s (a .desks .0), readable-desk t (a .desks .1)) (by-sound m n k h)
 
   module _ (so : sound s ≡ true) where
     facts : Sound s
@@ -166,8 +170,8 @@ module _ (w v : World) (a : Alike w v) where
 
   pub read-alike : (page : ℕ) → readRefusalOf s (w .home) (w .frames) page ≡ readRefusalOf t (v .home) (v .frames) page
   unfolding readRefusal
-  read-alike page = by-sound _ _ 2 (λ so. rw (a .homeIs, a .framesLong so, pages-alike, frames-alike) refl)
+  read-alike page = by-readable _ _ 2 (λ so. rw (a .homeIs, a .framesLong so, pages-alike, frames-alike) refl)
 
   pub settled-alike : (ticket : ℕ) → settledRefusal s ticket ≡ settledRefusal t ticket
   unfolding settledRefusal
-  settled-alike ticket = by-sound _ _ 2 (λ so. rw (ticket-alike, queued-alike so) refl)
+  settled-alike ticket = by-readable _ _ 2 (λ so. rw (ticket-alike, queued-alike so) refl)

@@ -38,7 +38,7 @@ use Rattle.promises.specs.Events.{World, Opening, Beginning, Describing,
 use Rattle.promises.specs.Answers.{Reply, refuses, gives, settles, shows, says, readAnswered}
 use Rattle.promises.specs.Events as events
 use Rattle.promises.specs.Alike.{Alike}
-use Rattle.promises.proofs.Soundness.{sound-of}
+use Rattle.promises.proofs.Soundness.{sound-of, desk-of}
 use Rattle.promises.proofs.SoundFacts.{distinct-dirty, length-queue}
 use Rattle.promises.proofs.Changes.{pick-zero, pick-other, describe-passed}
 use Rattle.promises.proofs.History.KeepFrom.{keep-applied}
@@ -68,6 +68,7 @@ pub fall-alike : (w v : World) (frames staging frames′ staging′ : List ℕ) 
 fall-alike w v frames staging frames′ staging′ l h = record {
   logIs = l;
   homeIs = h;
+  desks = (refl, refl);
   soundIs = refl;
   contentsAre = zero-contents staging staging′;
   dirtyAre = λ p. ap (lookUp p) (zero-dirty frames ∙ sym (zero-dirty frames′));
@@ -113,6 +114,7 @@ opening-alike w v al f s f′ s′ lf ls a b w′ v′ st st′ = go (openFindin
           rw (st .after, st′ .after) (record {
             logIs = al .logIs;
             homeIs = al .homeIs;
+            desks = (desk-of _ (o .staysSound), desk-of _ (o′ .staysSound));
             soundIs = o .staysSound ∙ sym (o′ .staysSound);
             contentsAre = o .contentsAre s ∙ c ∙ sym (o′ .contentsAre s′);
             dirtyAre = λ p. o .dirtyAre p ∙ sym (o′ .dirtyAre p);
@@ -135,6 +137,7 @@ module _ (w v : World) (al : Alike w v) where
   leaves-alike so s′ t′ x y change k k′ l = record {
     logIs = al .logIs;
     homeIs = al .homeIs;
+    desks = (desk-of _ (k .staysSound), desk-of _ (k′ .staysSound));
     soundIs = k .staysSound ∙ sym (k′ .staysSound);
     contentsAre = k .contentsAre ∙ ap change (al .contentsAre) ∙ sym (k′ .contentsAre);
     dirtyAre = λ p. k .dirtyAre (w .frames) p ∙ al .dirtyAre p ∙ sym (k′ .dirtyAre (v .frames) p);
@@ -231,6 +234,7 @@ module _ (w v : World) (al : Alike w v) where
               ∙ ap (λ (n : ℕ). stored (t .slots) (v .log) (t .next) (record { kind = update (n + 1) (getD g n noUpdate); keepFrom = keepFromOf (groupStart t) (dirtyOf t (v .frames)); ticket = t .ticket })) stored-same
               ∙ sym (u′ .logIs);
           homeIs = al .homeIs;
+          desks = (desk-of _ (u .staysSound), desk-of _ (u′ .staysSound));
           soundIs = u .staysSound ∙ sym (u′ .staysSound);
           contentsAre = u .contentsAre ∙ ap updateStored (al .contentsAre) ∙ sym (u′ .contentsAre);
           dirtyAre = λ p. u .dirtyAre p ∙ al .dirtyAre p ∙ sym (u′ .dirtyAre p);
@@ -250,6 +254,7 @@ module _ (w v : World) (al : Alike w v) where
                   ∙ block-alike so (commit (length g)) (λ n. n + 1)
                   ∙ sym (u′ .logIs ∙ ap (λ (k : ℕ). stored (t .slots) (v .log) (t .next) (record { kind = commit (length g); keepFrom = k; ticket = t .ticket + 1 })) keep′);
               homeIs = al .homeIs;
+              desks = (desk-of _ (u .staysSound), desk-of _ (u′ .staysSound));
               soundIs = u .staysSound ∙ sym (u′ .staysSound);
               contentsAre = u .contentsAre ∙ ap (λ (c : Contents). commitStored c g q) (al .contentsAre) ∙ sym (u′ .contentsAre);
               dirtyAre = λ p. u .dirtyAre p
@@ -350,6 +355,7 @@ module _ (w v : World) (al : Alike w v) where
         rw (st .after, st′ .after) (record {
           logIs = u .logIs ∙ k .log ∙ ap (λ (x : Store). x .log) (turned []) ∙ sym (u′ .logIs);
           homeIs = u .homeIs ∙ k .home ∙ ap (λ (x : Store). x .home) (turned []) ∙ sym (u′ .homeIs);
+          desks = (desk-of _ (u .staysSound), desk-of _ (u′ .staysSound));
           soundIs = u .staysSound ∙ sym (u′ .staysSound);
           contentsAre = u .contentsAre (w .staging) ∙ k .contents ∙ ap (λ (x : Store). x .contents) (turned (v .staging)) ∙ sym (u′ .contentsAre (v .staging));
           dirtyAre = λ o. u .dirtyAre o ∙ k .dirty o ∙ ap (λ (x : Store). lookUp o (x .dirtyPages)) (turned []) ∙ sym (u′ .dirtyAre o);

@@ -85,6 +85,7 @@ sound-opened s u f z lo hi a b c =
       slotSum = omega (arith, t1, t2);
       frameSum = omega (arith, t1);
       sequenceSum = omega (arith, t2);
+      mark = f .mark;
     })
 
 pub begin-met : (s : State) (u : ℕ) → beginRefusal s u ≡ 0 → Begins s u (record { state = begunState s u; answer = Done })
@@ -181,6 +182,7 @@ sound-closed s f n m h =
       slotSum = omega (arith, f .slotSum, f .described, t1, t2, tg, bg, sf);
       frameSum = omega (arith, f .frameSum, f .described, t1, tg);
       sequenceSum = omega (arith, f .sequenceSum, f .described, t2, bg, sf);
+      mark = f .mark;
     })
 
 pub end-met : (s : State) → length (s .groups) ≡ 32 → endRefusal s ≡ 0 → Ends s (record { state = endedState s; answer = Ticket (s .ticket + s .queued + 1) })
@@ -274,6 +276,7 @@ sound-update s staging g q f e h =
       slotSum = omega (arith, f .slotSum, h1, h2, few);
       frameSum = f .frameSum;
       sequenceSum = omega (arith, f .sequenceSum, few);
+      mark = f .mark;
     })
 
 -- the promise of an update's store, met by this state and a log with the block in its slot
@@ -303,6 +306,7 @@ sound-cleaning s c f h =
       slotSum = f .slotSum;
       frameSum = f .frameSum;
       sequenceSum = f .sequenceSum;
+      mark = f .mark;
     })
 
 -- ---- Read: where a page is held, and what shows of it

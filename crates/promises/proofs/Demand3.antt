@@ -52,7 +52,7 @@ either-way : (z : Sizes) (w : World) (b : Book) {h : List LogBlock} (ok : Bool) 
 either-way z w b true g = g
 either-way z w b false g = g
 
-do-call : (z : Sizes) (range : Ranged z) (w : World) (b : Book) {h : List LogBlock} → Good z w b h → (c : Call) (a : Reply) (w′ : World) → Lent z c → Step c w a w′
+pub do-call : (z : Sizes) (range : Ranged z) (w : World) (b : Book) {h : List LogBlock} → Good z w b h → (c : Call) (a : Reply) (w′ : World) → Lent z c → Step c w a w′
     → Good z w′ (entered c (accepts a) b) (h ++ storedIn z c (accepts a) w w′)
 do-call z range w b g (opening frames staging) a w′ l st = none-stored (either-way z w′ (gone b) (accepts a) (do-open z range w b g frames staging (l .0) (l .1) a w′ st))
 do-call z range w b g (begin u) a w′ l st = none-stored (do-begin z w b g u a w′ st)
@@ -77,6 +77,7 @@ fall z w b frames staging g =
       homeLong = g .homeLong;
       homeIs = g .homeIs;
       pagesAre = g .pagesAre;
+      desk = refl;
       live = λ e. not-sound e;
     }
 
@@ -189,6 +190,7 @@ at-start z range log home frames staging l h =
       homeLong = h;
       homeIs = λ p q. paged-is (z .pages) home p q;
       pagesAre = λ p q. paged-is (z .pages) home p q;
+      desk = refl;
       live = λ e. not-sound e;
     })
 

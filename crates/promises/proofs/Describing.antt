@@ -122,6 +122,7 @@ module _ (s : State) (f : Sound s) (u : Staged) (room : total (groupsOf s) + s .
         slotSum = f .slotSum;
         frameSum = f .frameSum;
         sequenceSum = f .sequenceSum;
+        mark = f .mark;
       })
 
   module _ (staging bytes : List ℕ) (long : length bytes ≡ u .length) (lent : length staging ≡ s .frames * 472) where

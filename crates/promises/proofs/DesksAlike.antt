@@ -19,7 +19,7 @@ use Rattle.promises.specs.declared.Answer.{Answer}
 use Rattle.promises.specs.Areas.{stagingLength, homeLength, framesLength}
 use Rattle.promises.specs.States.{allZeroState}
 use Rattle.promises.specs.Sums.{waitingBlocks, sequencesTaken, dirtyCount, lastEnded}
-use Rattle.promises.specs.Sound.{sound}
+use Rattle.promises.specs.Sound.{sound, readable}
 use Rattle.promises.specs.Walk.{Finding, stops, stands}
 use Rattle.promises.specs.Format.{formatRefusal, Formats}
 use Rattle.promises.specs.Open.{openFinding}
@@ -41,6 +41,7 @@ use Rattle.promises.proofs.Promised.{log-number}
 use Rattle.promises.proofs.Demand3.{Unfit, unfit-state}
 use Rattle.promises.proofs.Refines.{Refines}
 use Rattle.promises.proofs.OpenFindings.{open-refusals}
+use Rattle.promises.proofs.Soundness.{readable-desk}
 use Rattle.promises.proofs.AlikeSteps.{
   fall-alike,
   stay,
@@ -158,9 +159,9 @@ by-soundness : (ok : Bool) (x n : ℕ) (a : Reply) → (x ≡ 2 → ⊥) → n �
 by-soundness true x n a h e k r = ⊎-elim (λ (q : a ≡ refuses 1). q) (λ (q : a ≡ refuses 2). absurd (h (sym e ∙ k 2 q))) r
 by-soundness false x n a h e k r = ⊎-elim (λ (q : a ≡ refuses 1). absurd (omega (arith, e, k 1 q))) (λ (q : a ≡ refuses 2). q) r
 
-unfit-reply : (c : Call) (w : World) (a : Reply) (w′ : World) → Step c w a w′ → (a ≡ refuses 1) ⊎ (a ≡ refuses 2) → a ≡ unfitReply c (sound (w .state))
+unfit-reply : (c : Call) (w : World) (a : Reply) (w′ : World) → w .state .copy ≡ false → Step c w a w′ → (a ≡ refuses 1) ⊎ (a ≡ refuses 2) → a ≡ unfitReply c (sound (w .state))
 unfolding beginRefusal describeRefusal endRefusal logRefusal cleanRefusal readRefusal settledRefusal
-unfit-reply (opening f s) w a w′ st r = ⊎-elim (λ (q : a ≡ refuses 1). q) (λ (q : a ≡ refuses 2). go (openFinding (w .log) (w .home) (length f) (length s)) refl q) r
+unfit-reply (opening f s) w a w′ d st r = ⊎-elim (λ (q : a ≡ refuses 1). q) (λ (q : a ≡ refuses 2). go (openFinding (w .log) (w .home) (length f) (length s)) refl q) r
   where
     go : (x : Finding) → openFinding (w .log) (w .home) (length f) (length s) ≡ x → a ≡ refuses 2 → a ≡ refuses 1
     go (stops n j) e q =
@@ -170,40 +171,42 @@ unfit-reply (opening f s) w a w′ st r = ⊎-elim (λ (q : a ≡ refuses 1). q)
     go (stands n v) e q =
         let k : refuses 2 ≡ settles (v .ticket) = sym q ∙ st .replyIs ∙ st .promise .accepted n v e .answerIs in
         no-accept (ap accepts k)
-unfit-reply (begin u) w a w′ st r =
+unfit-reply (begin u) w a w′ d st r =
     let s = w .state in
     by-soundness (sound s) _ _ a
     (choice-not-two (beginInRange s u) (choice-not-two (eqb (s .reserved) 0) (choice-not-two (leb (s .next + waitingBlocks s + u + 1) sequenceEnd) (choice-not-two (beginHasRoom s u) (eqb-false 0 2 refl) (eqb-false 5 2 refl)) (eqb-false 6 2 refl)) (eqb-false 4 2 refl)) (eqb-false 3 2 refl))
     (number-by _ _ _ (st .promise .answerIs) refl) (λ k q. ap numberIn (sym (st .replyIs) ∙ q)) r
-unfit-reply (describe u) w a w′ st r =
+unfit-reply (describe u) w a w′ d st r =
     let s = w .state in
     by-soundness (sound s) _ _ a
     (choice-not-two (eqb (length (w .staging)) (stagingLength (s .frames))) (choice-not-two (eqb (s .reserved) 0) (eqb-false 4 2 refl)
     (choice-not-two (legalPlace (s .pages) (u .page) (u .offset) (length (u .bytes))) (choice-not-two (ltb (s .described) (s .reserved)) (eqb-false 0 2 refl) (eqb-false 5 2 refl)) (eqb-false 3 2 refl))) (eqb-false 1 2 refl))
     (number-by _ _ _ (st .promise .answerIs) refl) (λ k q. ap numberIn (sym (st .replyIs) ∙ q)) r
-unfit-reply ending w a w′ st r =
+unfit-reply ending w a w′ d st r =
     let s = w .state in
     by-soundness (sound s) _ _ a (choice-not-two (eqb (s .reserved) 0) (eqb-false 4 2 refl) (choice-not-two (eqb (s .described) 0) (eqb-false 10 2 refl) (eqb-false 0 2 refl)))
     (number-by _ _ _ (st .promise .answerIs) refl) (λ k q. ap numberIn (sym (st .replyIs) ∙ q)) r
-unfit-reply logStep w a w′ st r =
+unfit-reply logStep w a w′ d st r =
     let s = w .state in
     by-soundness (sound s) _ _ a
     (choice-not-two (areasFit s (length (w .log)) (length (w .home)) (length (w .frames)) && eqb (length (w .staging)) (stagingLength (s .frames))) (choice-not-two (eqb (s .queued) 0) (eqb-false 10 2 refl) (eqb-false 0 2 refl)) (eqb-false 1 2 refl))
     (log-number _ _ _ _ _ _ _ _ (st .promise)) (λ k q. ap numberIn (sym (st .replyIs) ∙ q)) r
-unfit-reply cleanStep w a w′ st r =
+unfit-reply cleanStep w a w′ d st r =
     let s = w .state in
     by-soundness (sound s) _ _ a
     (choice-not-two (areasFit s (length (w .log)) (length (w .home)) (length (w .frames))) (choice-not-two (eqb (dirtyCount s) 0) (eqb-false 10 2 refl) (third-not-two s (s .cleaning))) (eqb-false 1 2 refl))
     (number-by _ _ _ (st .promise .answerIs) refl) (λ k q. ap numberIn (sym (st .replyIs) ∙ q)) r
-unfit-reply (reading p) w a w′ st r =
+unfit-reply (reading p) w a w′ d st r =
     let s = w .state in
-    by-soundness (sound s) _ _ a
+    by-soundness (readable s) _ _ a
     (choice-not-two (eqb (length (now (st .home))) (homeLength (s .pages)) && eqb (length (now (st .frames))) (framesLength (s .frames))) (choice-not-two (ltb p (s .pages)) (eqb-false 0 2 refl) (eqb-false 3 2 refl)) (eqb-false 1 2 refl))
     (st .promise .refusal) (λ k q. read-refused-number (st .number) k (now (st .result)) (sym (st .replyIs) ∙ q)) r
-unfit-reply (settling t) w a w′ st r =
+    ∙ ap (λ (ok : Bool). cond ok (refuses 1) (refuses 2)) (readable-desk s d)
+unfit-reply (settling t) w a w′ d st r =
     let s = w .state in
-    by-soundness (sound s) _ _ a (choice-not-two (leb 1 t && leb t (lastEnded s)) (eqb-false 0 2 refl) (eqb-false 3 2 refl))
+    by-soundness (readable s) _ _ a (choice-not-two (leb 1 t && leb t (lastEnded s)) (eqb-false 0 2 refl) (eqb-false 3 2 refl))
     (number-by _ _ _ (st .promise .answerIs) refl) (λ k q. ap numberIn (sym (st .replyIs) ∙ q)) r
+    ∙ ap (λ (ok : Bool). cond ok (refuses 1) (refuses 2)) (readable-desk s d)
 
 -- its state is as it was, or all-zero after an Open
 same-unfit : (w v : World) → Alike w v → (c : Call) (s t : State) → Unfit c (w .state) s → Unfit c (v .state) t → Alike (withState w s) (withState v t)
@@ -250,9 +253,9 @@ on-unfit : (w v w′ v′ lent lent′ mine mine′ : World) (c c′ : Call) (a 
     → Step c lent a lent′ → Step c′ mine b mine′ → (a ≡ refuses 1) ⊎ (a ≡ refuses 2) → (b ≡ refuses 1) ⊎ (b ≡ refuses 2)
     → w′ ≡ withState w (lent′ .state) → v′ ≡ withState v (mine′ .state) → (a ≡ b) × Alike w′ v′
 on-unfit w v w′ v′ lent lent′ mine mine′ c c′ a b al e same same′ st st′ r r′ is is′ = (
-  unfit-reply c lent a lent′ st r ∙ unfit-reply-asked c _ ∙ ap (λ (s : State). unfitReply (asked c) (sound s)) same ∙ ap (unfitReply (asked c)) (al .soundIs)
+  unfit-reply c lent a lent′ (ap (λ (s : State). s .copy) same ∙ al .desks .0) st r ∙ unfit-reply-asked c _ ∙ ap (λ (s : State). unfitReply (asked c) (sound s)) same ∙ ap (unfitReply (asked c)) (al .soundIs)
       ∙ ap (λ (k : Call). unfitReply k (sound (v .state))) e
-      ∙ sym (unfit-reply c′ mine b mine′ st′ r′ ∙ unfit-reply-asked c′ _ ∙ ap (λ (s : State). unfitReply (asked c′) (sound s)) same′),
+      ∙ sym (unfit-reply c′ mine b mine′ (ap (λ (s : State). s .copy) same′ ∙ al .desks .1) st′ r′ ∙ unfit-reply-asked c′ _ ∙ ap (λ (s : State). unfitReply (asked c′) (sound s)) same′),
   stay (withState w (lent′ .state)) (withState v (mine′ .state)) w′ v′ (unfit-alike w v al c c′ e (lent′ .state) (mine′ .state)
       (subst (λ (s : State). Unfit c s (lent′ .state)) same (state c a lent lent′ st r)) (subst (λ (s : State). Unfit c′ s (mine′ .state)) same′ (state c′ b mine mine′ st′ r′))) is is′,
 )

@@ -20,3 +20,9 @@ pub mod Rules
 pub mod Whole
 pub mod Reopened
 pub mod DamagedSlots
+pub mod Fed
+pub mod Firsts
+pub mod Resumed
+pub mod OwnLog
+pub mod FedTurn
+pub mod KeepsUp

@@ -1,7 +1,7 @@
 -- The invariant of a run: log and home hold a history, and a sound state says what the history and the book say.
 -- Assumes nothing.
 use mathlib.Core.Path.{_≡_, refl, sym, ap, _∙_, subst}
-use mathlib.Core.Bool.{true}
+use mathlib.Core.Bool.{true, false}
 use Prim.Native.Nat.{ℕ, zero, suc, _+_, _*_, _≤_, _<_}
 use mathlib.Core.List.{List, [], _∷_, _++_}
 use native.Mathlib.Omega.{arith}
@@ -80,6 +80,7 @@ pub record Good (z : Sizes) (w : World) (b : Book) (history : List LogBlock) : T
   pub homeLong : length (w .home) ≡ z .pages * 1024
   pub homeIs : (p : ℕ) → p < z .pages → home p ≡ pageAt (w .home) p
   pub pagesAre : (p : ℕ) → p < z .pages → pages p ≡ b .pages p
+  pub desk : w .state .copy ≡ false
   pub live : sound (w .state) ≡ true → Lives z w b history home pages
 
 -- ---- fits

@@ -30,6 +30,17 @@ pub mod SilentLoss
 pub mod LogTurns
 pub mod CleanTurns
 pub mod WaitBound
+pub mod Taken
+pub mod FedBytes
+pub mod CopyFacts
+pub mod Passed
+pub mod Copies
+pub mod CopyCalls
+pub mod CopyClaims
+pub mod CopyKeepsUp
+pub mod CopyRefines
+pub mod CopyPromised
+pub mod CopyLife
 pub mod Corollaries
 pub mod Tickets
 pub mod DesksAlike

@@ -31,7 +31,7 @@ use Rattle.promises.specs.Walk.{startWith, stands, walkFrom, walkGathere
 use Rattle.promises.specs.Contents.{dirtyFrom, dirtyOf, grouped}
 use Rattle.promises.specs.States.{free, allZeroState, freed, Fills}
 use Rattle.promises.specs.Sums.{firstGroups}
-use Rattle.promises.specs.Sound.{sound, dirtyNumbers}
+use Rattle.promises.specs.Sound.{soundAs, sound, dirtyNumbers}
 use Rattle.promises.specs.Answers.{replied}
 use Rattle.promises.specs.Format.{Formats}
 use Rattle.promises.specs.Open.{openFinding, Opens, OpenStands}
@@ -62,6 +62,7 @@ state next ticket first long size queued count reserved described cleaning = rec
   reserved = reserved;
   described = described;
   cleaning = cleaning;
+  copy = false;
 }
 
 abbrev awoken : State
@@ -149,7 +150,7 @@ unfolding openFinding finding gathered allUnused newest walkFrom keepFromOf
 fresh = ap (λ (slots : List Slot). walkGathered 8 2 (pageAt home) slots (gathered 8 slots)) (blank-from 8 4 4096 0 8 (omega arith))
 
 open-step : OpenStands 1 (startWith 0) log₀ home frames (record { state = awoken; answer = OpenSettled 0 }) frames
-unfolding sound firstGroups dirtyNumbers dirtyFrom grouped
+unfolding soundAs firstGroups dirtyNumbers dirtyFrom grouped
 open-step = record {
   answerIs = refl;
   framesLong = refl;
@@ -176,11 +177,11 @@ pub open-met : Opens log₀ home frames staging (record { state = awoken; answer
 open-met = open-accepts log₀ home frames staging (record { state = awoken; answer = OpenSettled 0 }) frames 1 (startWith 0) fresh open-step
 
 pub begin-met : Begins awoken 1 (record { state = opened; answer = Done })
-unfolding replied beginRefusal sound firstGroups dirtyNumbers dirtyFrom grouped
+unfolding replied beginRefusal soundAs firstGroups dirtyNumbers dirtyFrom grouped
 begin-met = record { answerIs = refl; refused = λ n. absurd (n refl); stateIs = λ e. refl; leaves = λ e x. record { staysSound = refl; contentsAre = refl; dirtyAre = λ y p. refl } }
 
 pub describe-met : Describes opened (record { page = 0; offset = 0; bytes = 42 ∷ [] }) staging (record { state = described; answer = Done }) staging′
-unfolding replied describeRefusal sound firstGroups dirtyNumbers dirtyFrom grouped part splice
+unfolding replied describeRefusal soundAs firstGroups dirtyNumbers dirtyFrom grouped part splice
 describe-met = record {
   answerIs = refl;
   refused = λ n. absurd (n refl);
@@ -195,7 +196,7 @@ describe-met = record {
 }
 
 pub end-met : Ends described (record { state = closed; answer = Ticket 1 })
-unfolding replied endRefusal sound firstGroups dirtyNumbers dirtyFrom grouped part
+unfolding replied endRefusal soundAs firstGroups dirtyNumbers dirtyFrom grouped part
 end-met = record { answerIs = refl; refused = λ n. absurd (n refl); stateIs = λ e. refl; leaves = λ e x. record { staysSound = refl; contentsAre = refl; dirtyAre = λ y p. refl } }
 
 -- ---- the two blocks of the group
@@ -204,11 +205,11 @@ abbrev log₁ : List ℕ
 log₁ = stored 8 log₀ 1 (updateBlock closed group (dirtyOf closed frames))
 
 update-step : UpdateStep closed group log₀ frames staging′ (record { state = half; answer = Stored }) log₁ frames
-unfolding sound firstGroups dirtyNumbers dirtyFrom grouped part
+unfolding soundAs firstGroups dirtyNumbers dirtyFrom grouped part
 update-step = record { answerIs = refl; logIs = refl; framesAre = refl; stateIs = refl; staysSound = refl; contentsAre = refl; dirtyAre = λ p. refl }
 
 pub update-met : LogSteps closed log₀ home frames staging′ (record { state = half; answer = Stored }) log₁ frames
-unfolding logRefusal sound firstGroups dirtyNumbers grouped part
+unfolding logRefusal soundAs firstGroups dirtyNumbers grouped part
 update-met =
     log-updates closed log₀ home frames staging′ (record { state = half; answer = Stored }) log₁ frames refl group [] refl (omega arith) update-step
 
@@ -216,7 +217,7 @@ abbrev log₂ : List ℕ → List ℕ
 log₂ log = stored 8 log 2 (commitBlock half group (dirtyAfter half group home frames))
 
 commit-step : (log : List ℕ) → CommitStep half group [] log home frames staging′ (record { state = dirty; answer = LogSettled 1 }) (log₂ log) frames′
-unfolding sound firstGroups dirtyNumbers dirtyFrom grouped part cleaningAfter shifted applyAll apply put
+unfolding soundAs firstGroups dirtyNumbers dirtyFrom grouped part cleaningAfter shifted applyAll apply put
 commit-step log = record {
   answerIs = refl;
   logIs = refl;
@@ -229,7 +230,7 @@ commit-step log = record {
 }
 
 half-accepted : (n : ℕ) → n ≡ 4096 → logRefusal half n 4096 2048 944 ≡ 0
-unfolding logRefusal sound firstGroups dirtyNumbers
+unfolding logRefusal soundAs firstGroups dirtyNumbers
 half-accepted n e = rw e
 
 pub commit-met : (log : List ℕ) → length log ≡ 4096
@@ -240,7 +241,7 @@ commit-met log e =
     (half-accepted (length log) e) group [] refl (omega arith) (commit-step log)
 
 pub settled-met : Settles dirty 1 Yes
-unfolding replied settledRefusal sound firstGroups dirtyNumbers
+unfolding replied settledRefusal soundAs firstGroups dirtyNumbers
 settled-met = record { answerIs = refl }
 
 -- ---- the two halves and the clean block
@@ -255,7 +256,7 @@ abbrev atThird : State
 atThird = state 3 1 1 0 0 0 0 0 0 (Third 0)
 
 first-step : (log : List ℕ) → CleanStep dirty log home frames′ (record { state = atSecond; answer = Done }) log (splice home 0 512 (42 ∷ replicate 511 0))
-unfolding cleanStore sound firstGroups dirtyNumbers dirtyFrom grouped part lookUp
+unfolding cleanStore soundAs firstGroups dirtyNumbers dirtyFrom grouped part lookUp
 first-step log = record {
   page = 0;
   entry = entry;
@@ -271,7 +272,7 @@ first-step log = record {
 
 second-step : (log pages : List ℕ)
     → CleanStep atSecond log pages frames′ (record { state = atThird; answer = Done }) log (splice pages 512 512 (replicate 512 0))
-unfolding cleanStore sound firstGroups dirtyNumbers dirtyFrom grouped part lookUp
+unfolding cleanStore soundAs firstGroups dirtyNumbers dirtyFrom grouped part lookUp
 second-step log pages = record {
   page = 0;
   entry = entry;
@@ -289,7 +290,7 @@ abbrev log₃ : List ℕ → List ℕ
 log₃ log = stored 8 log 3 (record { kind = clean 0; keepFrom = 3; ticket = 1 })
 
 clean-step : (log pages : List ℕ) → CleanStep atThird log pages frames′ (record { state = cleaned; answer = Done }) (log₃ log) pages
-unfolding cleanStore sound firstGroups dirtyNumbers dirtyFrom grouped part lookUp without keepFromOf freed
+unfolding cleanStore soundAs firstGroups dirtyNumbers dirtyFrom grouped part lookUp without keepFromOf freed
 clean-step log pages = record {
   page = 0;
   entry = entry;
@@ -305,7 +306,7 @@ clean-step log pages = record {
 
 clean-accepted : (n m : ℕ) → n ≡ 4096 → m ≡ 4096
     → (cleanRefusal dirty n m 2048 ≡ 0) × (cleanRefusal atSecond n m 2048 ≡ 0) × (cleanRefusal atThird n m 2048 ≡ 0)
-unfolding cleanRefusal sound firstGroups dirtyNumbers
+unfolding cleanRefusal soundAs firstGroups dirtyNumbers
 clean-accepted n m e f = rw (e, f) (refl, refl, refl)
 
 pub first-met : (log : List ℕ) → length log ≡ 4096
@@ -335,7 +336,7 @@ abbrev framesLent : RefT (List ℕ)
 framesLent = record { ptr = (2, 0); name = 2; now = frames′ }
 
 pub read-dirty-met : Reads dirty homeLent framesLent 0 0 (record { ptr = (2, 0); name = 3; now = entry .bytes })
-unfolding readRefusal heldIn sound firstGroups dirtyNumbers
+unfolding readRefusal heldIn soundAs firstGroups dirtyNumbers
 read-dirty-met = record {
   refusal = refl;
   refused = λ n. absurd (n refl);
@@ -344,7 +345,7 @@ read-dirty-met = record {
 }
 
 pub read-home-met : Reads dirty homeLent framesLent 3 0 (record { ptr = (1, 3072); name = 3; now = replicate 1024 0 })
-unfolding readRefusal heldIn sound firstGroups dirtyNumbers
+unfolding readRefusal heldIn soundAs firstGroups dirtyNumbers
 read-home-met = record {
   refusal = refl;
   refused = λ n. absurd (n refl);
@@ -354,5 +355,5 @@ read-home-met = record {
 
 -- and the refusals on the way: nothing queued, nothing dirty
 nothing-to-do : (logRefusal awoken 4096 4096 2048 944 ≡ 10) × (cleanRefusal awoken 4096 4096 2048 ≡ 10) × (cleanRefusal half 4096 4096 2048 ≡ 10)
-unfolding logRefusal cleanRefusal sound firstGroups dirtyNumbers
+unfolding logRefusal cleanRefusal soundAs firstGroups dirtyNumbers
 nothing-to-do = (refl, refl, refl)

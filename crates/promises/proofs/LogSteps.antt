@@ -40,6 +40,7 @@ use Rattle.promises.proofs.Ranges.{Ranged}
 use Rattle.block.proofs.Facts.{NumberFacts}
 use Rattle.promises.proofs.Slots.{KindFits, carried-few, slots-store, length-stored}
 use Rattle.promises.proofs.SoundFacts.{Facts, facts, length-queue}
+use Rattle.promises.proofs.Soundness.{desk-of}
 use Rattle.promises.proofs.Kept.{sizesOf, bookOf, liveOf, stageOf, Fit, Fits, FitsAll, Lives, Good, fits-updates, fits-at, apply-all-cong, lives-from, cleaning-after}
 use Rattle.promises.proofs.StoredBlocks.{none-stored, one-stored}
 use Rattle.promises.proofs.Replies.{no-accept}
@@ -110,7 +111,7 @@ module _ (z : Sizes) (range : Ranged z) (w : World) (b : Book) {history : List L
     pub queue : b .queue ≡ g ∷ q
     pub below : s .next < 2 ^ 48
 
-  ready : (g : List Update) (q : List (List Update)) → queueOf s (w .staging) ≡ g ∷ q → sound s ≡ true → Ready g q
+  pub ready : (g : List Update) (q : List (List Update)) → queueOf s (w .staging) ≡ g ∷ q → sound s ≡ true → Ready g q
   ready g q e so =
       let l : Lives z w b history (gd .home) (gd .pages) = gd .live so in
       let f : Facts s (w .frames) = facts s (w .frames) so in
@@ -179,13 +180,14 @@ module _ (z : Sizes) (range : Ranged z) (w : World) (b : Book) {history : List L
         homeLong = gd .homeLong;
         homeIs = gd .homeIs;
         pagesAre = gd .pagesAre;
+        desk = desk-of _ (u .staysSound);
         live = λ y. lives-from z (record { state = st .result .state; log = st .log′; home = w .home; frames = st .frames′; staging = w .staging }) (counted b) (history ++ (x ∷ [])) (gd .home) (gd .pages) _ updateLive (s .next + 1)
             (record { pageCount = l .pageCount; slotCount = l .slotCount; frameCount = l .frameCount; next = refl; ticket = refl; queue = refl; stored = refl; cleaning = refl; list = l .list })
             y (u .contentsAre) (λ p. rw (u .framesAre) (u .dirtyAre p)) (l .listFits) (l .queueFits) (k .1);
       })
 
   -- ---- a commit is stored
-  abbrev commitAt : List Update → ℕ → LogBlock
+  abbrev pub commitAt : List Update → ℕ → LogBlock
   commitAt g n = record { kind = commit (length g); keepFrom = keepFromOf (n - s .stored) (dirtyOf s (w .frames)); ticket = s .ticket + 1 }
 
   abbrev commitLive : List Update → List (List Update) → ℕ → Live
@@ -237,13 +239,14 @@ module _ (z : Sizes) (range : Ranged z) (w : World) (b : Book) {history : List L
         homeLong = gd .homeLong;
         homeIs = gd .homeIs;
         pagesAre = λ p i. ap (redo (ofPage p g)) (gd .pagesAre p i);
+        desk = desk-of _ (u .staysSound);
         live = λ y. lives-from z (record { state = st .result .state; log = st .log′; home = w .home; frames = st .frames′; staging = w .staging }) (committed b g q) (history ++ (x ∷ [])) (gd .home) (newPages g) _ (commitLive g q (s .next)) (s .next + 1)
             (record { pageCount = l .pageCount; slotCount = l .slotCount; frameCount = l .frameCount; next = refl; ticket = refl; queue = refl; stored = refl; cleaning = cleaning-after g (s .cleaning); list = l .list })
             y (u .contentsAre) (λ p. u .dirtyAre p ∙ ap (lookUp p) (sym tc)) (l .listFits) (r .rest) (k .1);
       })
 
   -- ---- LOG STEP
-  log-cases : (a : Reply) (w′ : World) (X : Type 0) (st : Logging w a w′)
+  pub log-cases : (a : Reply) (w′ : World) (X : Type 0) (st : Logging w a w′)
       → ((g : List Update) (q : List (List Update)) → queueOf s (w .staging) ≡ g ∷ q → sound s ≡ true → s .stored < length g → UpdateStep s g (w .log) (w .frames) (w .staging) (st .result) (st .log′) (st .frames′) → X)
       → ((g : List Update) (q : List (List Update)) → queueOf s (w .staging) ≡ g ∷ q → sound s ≡ true → length g ≤ s .stored → CommitStep s g q (w .log) (w .home) (w .frames) (w .staging) (st .result) (st .log′) (st .frames′) → X)
       → ((logRefusalOf s (w .log) (w .home) (w .frames) (w .staging) ≡ 0 → ⊥) → X) → X

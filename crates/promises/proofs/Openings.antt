@@ -36,11 +36,13 @@ use Rattle.promises.specs.Events.{Sizes, World, Opening, Reading}
 use Rattle.promises.specs.Answers.{Reply, settles, shows, accepts}
 use Rattle.promises.proofs.Ranges.{Ranged}
 use Rattle.promises.proofs.OpenFindings.{open-finds}
+use Rattle.promises.specs.Sound.{readable}
+use Rattle.promises.proofs.Soundness.{desk-of, readable-desk}
 use Rattle.promises.proofs.Kept.{sizesOf, bookOf, Good, apply-all-cong, lives-from}
 use Rattle.promises.proofs.QuietCalls.{answer-reading}
 
 -- ---- a walk without a refusal
-ok-parts : (F : ℕ) (home : ℕ → List ℕ) (k : Kind) (t : ℕ) (v : Walk) → blockStands F home k t v ≡ true → (inOrder k t v ≡ true) × (framed F home k v ≡ true)
+pub ok-parts : (F : ℕ) (home : ℕ → List ℕ) (k : Kind) (t : ℕ) (v : Walk) → blockStands F home k t v ≡ true → (inOrder k t v ≡ true) × (framed F home k v ≡ true)
 unfolding blockStands inOrder framed
 ok-parts F home (update i u) t v e = (e, refl)
 ok-parts F home (commit n) t v e = and-both _ (leb (length (applyAll (v .start) home (v .group) (v .dirtyPages))) F) e
@@ -55,13 +57,13 @@ walk-ok N F next home j (b ∷ bs) v e =
     rw (d .0, d .1) (walk-ok N F next home (suc j) bs (walkBlock home j (b .kind) v) (c .1))
 
 -- ---- the walk reads home only at pages that are there
-framed-cong : (P F : ℕ) (home home′ : ℕ → List ℕ) (k : Kind) (v : Walk) → ((p : ℕ) → p < P → home p ≡ home′ p) → Ups P (v .group) → framed F home k v ≡ framed F home′ k v
+pub framed-cong : (P F : ℕ) (home home′ : ℕ → List ℕ) (k : Kind) (v : Walk) → ((p : ℕ) → p < P → home p ≡ home′ p) → Ups P (v .group) → framed F home k v ≡ framed F home′ k v
 unfolding framed
 framed-cong P F home home′ (update i u) v h l = refl
 framed-cong P F home home′ (commit n) v h l = ap (λ (x : List DirtyPage). leb (length x) F) (apply-all-cong P (v .start) home home′ (v .group) (v .dirtyPages) h l)
 framed-cong P F home home′ (clean q) v h l = refl
 
-block-cong : (P j : ℕ) (home home′ : ℕ → List ℕ) (k : Kind) (v : Walk) → ((p : ℕ) → p < P → home p ≡ home′ p) → Ups P (v .group) → walkBlock home j k v ≡ walkBlock home′ j k v
+pub block-cong : (P j : ℕ) (home home′ : ℕ → List ℕ) (k : Kind) (v : Walk) → ((p : ℕ) → p < P → home p ≡ home′ p) → Ups P (v .group) → walkBlock home j k v ≡ walkBlock home′ j k v
 unfolding walkBlock
 block-cong P j home home′ (update i u) v h l = refl
 block-cong P j home home′ (commit n) v h l = ap (λ (x : List DirtyPage). record { group = []; start = 0; ticket = v .ticket + 1; dirtyPages = x }) (apply-all-cong P (v .start) home home′ (v .group) (v .dirtyPages) h l)
@@ -135,7 +137,7 @@ module _ (z : Sizes) (range : Ranged z) (w : World) (b : Book) {history : List L
   ends₀ : ending (z .slots) nx vw ≡ stands nx vw
   ends₀ = simp (le-leb _ _ (fitting (sizesOf z) slots₀ (gd .home) ledger₀ history big (gd .kept)))
 
-  finding₀ : finding (z .slots) (z .pages) (z .frames) (w .log) (w .home) ≡ stands nx vw
+  pub finding₀ : finding (z .slots) (z .pages) (z .frames) (w .log) (w .home) ≡ stands nx vw
   unfolding finding
   finding₀ =
       ap (walkGathered (z .slots) (z .frames) (pageAt (w .home)) slots₀) (gathered-is (sizesOf z) slots₀ (gd .home) ledger₀ history big (gd .kept))
@@ -168,6 +170,7 @@ module _ (z : Sizes) (range : Ranged z) (w : World) (b : Book) {history : List L
           homeLong = gd .homeLong;
           homeIs = gd .homeIs;
           pagesAre = gd .pagesAre;
+          desk = desk-of _ (o .staysSound);
           live = λ y. lives-from z (record { state = st .result .state; log = w .log; home = w .home; frames = st .frames′; staging = staging }) (gone b) history (gd .home) (gd .pages) _ (full.opened vw) nx
               (record { pageCount = omega (arith, gd .homeLong); slotCount = omega (arith, gd .logLong); frameCount = omega arith; next = refl; ticket = refl; queue = refl; stored = refl; cleaning = refl; list = refl })
               y (o .contentsAre staging) (o .dirtyAre) tt tt (running (sizesOf z) slots₀ (gd .home) ledger₀ history big k);
@@ -183,7 +186,8 @@ module _ (z : Sizes) (range : Ranged z) (w : World) (b : Book) {history : List L
         let l1 : length (w .home) ≡ st .result .state .pages * 1024 = omega (arith, gd .homeLong) in
         let l2 : length (st .frames′) ≡ st .result .state .frames * 1024 = omega (arith, o .framesLong) in
         let l3 : p < st .result .state .pages = omega arith in
-        simp (o .staysSound, eq-eqb _ _ l1, eq-eqb _ _ l2, lt-ltb _ _ l3)
+        let so : readable (st .result .state) ≡ true = readable-desk _ (desk-of _ (o .staysSound)) ∙ o .staysSound in
+        simp (so, eq-eqb _ _ l1, eq-eqb _ _ l2, lt-ltb _ _ l3)
 
     pub reads-right : (p : ℕ) (x : Reply) (w″ : World) → p < z .pages → Reading w′ p x w″ → x ≡ shows (b .pages p)
     reads-right p x w″ h rd =

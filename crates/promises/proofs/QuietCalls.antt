@@ -14,7 +14,7 @@ use Rattle.promises.specs.declared.State.{State}
 use Rattle.promises.specs.Updates.{Update}
 use Rattle.promises.specs.Blocks.{LogBlock}
 use Rattle.promises.specs.Contents.{queueOf}
-use Rattle.promises.specs.Sound.{sound}
+use Rattle.promises.specs.Sound.{sound, readable}
 use Rattle.block.specs.Legal.{legalPlace}
 use Rattle.promises.specs.Begin.{beginRefusal}
 use Rattle.promises.specs.Describe.{describeRefusal}
@@ -32,6 +32,7 @@ use Rattle.promises.specs.Answers.{Reply, gives, shows, says, accepts}
 use Rattle.promises.specs.Claim.{entered}
 use Rattle.promises.proofs.Replies.{refused-not, accepted-by, no-accept, read-accepted-reply, read-refused-reply}
 use Rattle.promises.proofs.SoundFacts.{and-left, and-right, Facts, facts, length-list, length-queue}
+use Rattle.promises.proofs.Soundness.{desk-of, readable-desk}
 use Rattle.promises.proofs.Kept.{sizesOf, bookOf, liveOf, Fit, Lives, Good, fits-legal, fits-updates, fits-more, all-more, lives-from}
 
 -- ---- Begin
@@ -54,6 +55,7 @@ module _ (z : Sizes) (w : World) (b : Book) {history : List LogBlock} (g : Good 
         homeLong = g .homeLong;
         homeIs = g .homeIs;
         pagesAre = g .pagesAre;
+        desk = desk-of _ (lv .staysSound);
         live = λ x. lives-from z (withState w (st .result .state)) (begun b) history (g .home) (g .pages) _ (liveOf s (w .frames) (w .staging)) (s .next)
             (record { pageCount = l .pageCount; slotCount = l .slotCount; frameCount = l .frameCount; next = refl; ticket = refl; queue = refl; stored = refl; cleaning = refl; list = refl })
             x (lv .contentsAre) (lv .dirtyAre (w .frames)) tt (l .queueFits) (l .runs);
@@ -84,6 +86,7 @@ module _ (z : Sizes) (w : World) (b : Book) {history : List LogBlock} (g : Good 
         homeLong = g .homeLong;
         homeIs = g .homeIs;
         pagesAre = g .pagesAre;
+        desk = desk-of _ (lv .staysSound);
         live = λ x. lives-from z (record { state = st .result .state; log = w .log; home = w .home; frames = w .frames; staging = st .staging′ }) (described u b) history (g .home) (g .pages) _ (liveOf s (w .frames) (w .staging)) (s .next)
             (record { pageCount = l .pageCount; slotCount = l .slotCount; frameCount = l .frameCount; next = refl; ticket = refl; queue = refl; stored = refl; cleaning = refl; list = ap (λ (x : List Update). x ++ (u ∷ [])) (l .list) })
             x (lv .contentsAre) (lv .dirtyAre (w .frames)) (fits-more (z .pages) (b .list) u (l .listFits) ft) (l .queueFits) (l .runs);
@@ -117,6 +120,7 @@ module _ (z : Sizes) (w : World) (b : Book) {history : List LogBlock} (g : Good 
         homeLong = g .homeLong;
         homeIs = g .homeIs;
         pagesAre = g .pagesAre;
+        desk = desk-of _ (lv .staysSound);
         live = λ x. lives-from z (withState w (st .result .state)) (ended b) history (g .home) (g .pages) _ (enqueue k (b .list)) (s .next)
             (record {
               pageCount = l .pageCount;
@@ -150,8 +154,8 @@ module _ (z : Sizes) (w : World) (b : Book) {history : List LogBlock} (g : Good 
   unfolding settledRefusal
   answer-settling t a w′ st ok = by-eq (settledRefusal s t) 0
       (λ e.
-      let c2 = pick-zero (sound s) _ 2 (omega arith) e in
-      let l : Lives z w b history (g .home) (g .pages) = g .live (c2 .0) in
+      let c2 = pick-zero (readable s) _ 2 (omega arith) e in
+      let l : Lives z w b history (g .home) (g .pages) = g .live (sym (readable-desk s (g .desk)) ∙ c2 .0) in
       st .replyIs ∙ accepted-by _ _ _ (st .promise .answerIs) e ∙ ap (λ (n : ℕ). says (leb t n)) (l .runs .alive .ticket))
       (λ n. no-accept (sym (refused-not _ _ _ (st .promise .answerIs) n) ∙ ap accepts (sym (st .replyIs)) ∙ ok))
 
@@ -160,10 +164,10 @@ module _ (z : Sizes) (w : World) (b : Book) {history : List LogBlock} (g : Good 
   unfolding readRefusal
   answer-reading p a w′ st ok = by-eq (readRefusalOf s (now (st .home)) (now (st .frames)) p) 0
       (λ e.
-      let c2 = pick-zero (sound s) _ 2 (omega arith) e in
+      let c2 = pick-zero (readable s) _ 2 (omega arith) e in
       let c1 = pick-zero (eqb (length (now (st .home))) (s .pages * 1024) && eqb (length (now (st .frames))) (s .frames * 1024)) _ 1 (omega arith) (c2 .1) in
       let c3 = pick-zero (ltb p (s .pages)) _ 3 (omega arith) (c1 .1) in
-      let l : Lives z w b history (g .home) (g .pages) = g .live (c2 .0) in
+      let l : Lives z w b history (g .home) (g .pages) = g .live (sym (readable-desk s (g .desk)) ∙ c2 .0) in
       let h : p < z .pages = rw (← (l .pageCount)) (ltb-true _ _ (c3 .0)) in
       let r = shown-right history (g .home) (liveOf s (w .frames) (w .staging)) (bookOf (g .pages) b) (g .kept .disk) (l .runs .alive) p in
       let bytes : now (st .result) ≡ b .pages p = st .promise .bytesAre e ∙ rw (st .homeIs, st .framesAre, ← (g .homeIs p h)) (r ∙ g .pagesAre p h) in

@@ -20,7 +20,7 @@ pub record Refines (by : Steps) : Type 0 where
 
 module _ (by : Steps) (r : Refines by) where
   -- a run by these steps is one by the promises
-  pub as-promised : (z : Sizes) (w : World) (b : Book) → Run by z w b → Run promised z w b
+  unfoldable pub as-promised : (z : Sizes) (w : World) (b : Book) → Run by z w b → Run promised z w b
   as-promised z w b (formatted log log′ home frames staging a l h f e q) = formatted log log′ home frames staging a l h (r .formats log a log′ f) e q
   as-promised z w b (called {world = w₀} {book = b₀} c a run l st e) = called c a (as-promised z w₀ b₀ run) l (r .steps c w₀ a w st) e
   as-promised z w b (unfit {world = w₀} {book = b₀} c a lent lent′ run same st x e q) =

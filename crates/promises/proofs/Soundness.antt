@@ -1,11 +1,11 @@
 -- Soundness as a record of facts: what a sound state gives, and what makes a state sound.
 -- Assumes nothing.
-use mathlib.Core.Path.{_≡_, refl}
-use mathlib.Core.Bool.{true, false, _&&_}
+use mathlib.Core.Path.{_≡_, refl, ap, _∙_}
+use mathlib.Core.Bool.{Bool, true, false, not, _&&_}
 use Prim.Native.Nat.{ℕ, _+_, _-_, _^_, _≤_, _<_}
 use lib.ListN.{length, take, drop}
 use lib.Dec.{leb}
-use borrow.Author.Tests.{leb-true, ltb-true, eqb-true, le-leb, lt-ltb, eq-eqb}
+use borrow.Author.Tests.{leb-true, ltb-true, eqb-true, le-leb, lt-ltb, eq-eqb, not-true}
 use mathlib.Core.List.{List}
 use Rattle.area.proofs.Laws.{and-both, and2}
 use Rattle.promises.specs.declared.State.{State}
@@ -39,10 +39,14 @@ use Rattle.promises.specs.Sound.{
   slotSumSound,
   frameSumSound,
   sequenceSumSound,
+  markSound,
+  soundAs,
   sound,
+  readable,
 }
 
-pub record Sound (s : State) : Type 0 where
+-- as a desk's state or as a copy's
+pub record SoundAs (copy : Bool) (s : State) : Type 0 where
   pub pages : (1 ≤ s .pages) × (s .pages ≤ 4096)
   pub slots : (8 ≤ s .slots) × (s .slots ≤ 1024)
   pub frames : (1 ≤ s .frames) × (s .frames ≤ 32)
@@ -59,20 +63,25 @@ pub record Sound (s : State) : Type 0 where
   pub staged : total (groupsOf s) + s .described ≤ length (s .staged)
   pub reserved : s .reserved ≤ 16
   pub described : s .described ≤ s .reserved
-  pub stored : ofOldest (s .stored) (groupsOf s) ≡ true
+  pub stored : halfGroupSound copy s ≡ true
   pub cleaning : names (s .cleaning) (dirtyNumbers (s .dirty)) ≡ true
   pub slotSum : slotsTaken s + reservedUpdates s + owedBlocks s ≤ s .slots
   pub frameSum : framesTaken s + reservedUpdates s ≤ s .frames
   pub sequenceSum : sequencesTaken s ≤ 2 ^ 48
+  pub mark : markSound copy s ≡ true
 
-pub sound-of : (s : State) → sound s ≡ true → Sound s
-unfolding sound
-sound-of s h =
-    let a14 = and-both _ (sequenceSumSound s) h in
+abbrev pub Sound : State → Type 0
+Sound s = SoundAs false s
+
+pub sound-as-of : (copy : Bool) (s : State) → soundAs copy s ≡ true → SoundAs copy s
+unfolding soundAs
+sound-as-of copy s h =
+    let a15 = and-both _ (markSound copy s) h in
+    let a14 = and-both _ (sequenceSumSound s) (a15 .0) in
     let a13 = and-both _ (frameSumSound s) (a14 .0) in
     let a12 = and-both _ (slotSumSound s) (a13 .0) in
     let a11 = and-both _ (cleaningSound s) (a12 .0) in
-    let a10 = and-both _ (halfGroupSound s) (a11 .0) in
+    let a10 = and-both _ (halfGroupSound copy s) (a11 .0) in
     let a9 = and-both _ (reservationSound s) (a10 .0) in
     let a8 = and-both _ (groupsSound s) (a9 .0) in
     let a7 = and-both _ (stagedPlacesSound s) (a8 .0) in
@@ -114,11 +123,15 @@ sound-of s h =
       slotSum = leb-true _ _ (a12 .1);
       frameSum = leb-true _ _ (a13 .1);
       sequenceSum = leb-true _ _ (a14 .1);
+      mark = a15 .1;
     }
 
-pub of-sound : (s : State) → Sound s → sound s ≡ true
-unfolding sound
-of-sound s f =
+pub sound-of : (s : State) → sound s ≡ true → Sound s
+sound-of s h = sound-as-of false s h
+
+pub of-sound-as : (copy : Bool) (s : State) → SoundAs copy s → soundAs copy s ≡ true
+unfolding soundAs
+of-sound-as copy s f =
     let sizes : sizesSound s ≡ true =
     and2
     (and2 (and2 (le-leb _ _ (f .slots .0)) (le-leb _ _ (f .slots .1))) (and2 (le-leb _ _ (f .pages .0)) (le-leb _ _ (f .pages .1))))
@@ -129,7 +142,18 @@ of-sound s f =
     let a6 = and2 (and2 (and2 a3 (f .firstsBelow)) (lt-ltb _ _ (f .ticket))) (and2 (f .distinctAreas) (f .areasBelow)) in
     let a9 = and2 (and2 (and2 a6 (f .places)) groups) reservation in
     let a11 = and2 (and2 a9 (f .stored)) (f .cleaning) in
-    and2 (and2 (and2 a11 (le-leb _ _ (f .slotSum))) (le-leb _ _ (f .frameSum))) (le-leb _ _ (f .sequenceSum))
+    and2 (and2 (and2 (and2 a11 (le-leb _ _ (f .slotSum))) (le-leb _ _ (f .frameSum))) (le-leb _ _ (f .sequenceSum))) (f .mark)
+
+pub of-sound : (s : State) → Sound s → sound s ≡ true
+of-sound s f = of-sound-as false s f
+
+-- a state that is sound to the desk's calls is a desk's
+pub desk-of : (s : State) → sound s ≡ true → s .copy ≡ false
+desk-of s h = not-true _ (sound-of s h .mark)
+
+-- to Read and Settled a desk's state is sound as to the other calls
+pub readable-desk : (s : State) → s .copy ≡ false → readable s ≡ sound s
+readable-desk s e = ap (λ (c : Bool). soundAs c s) e
 
 -- ---- the facts in parts, each over the fields that it speaks of: a part whose fields a call leaves is handed on whole
 
@@ -173,6 +197,7 @@ pub record Parts (s : State) : Type 0 where
   pub slotSum : slotsTaken s + reservedUpdates s + owedBlocks s ≤ s .slots
   pub frameSum : framesTaken s + reservedUpdates s ≤ s .frames
   pub sequenceSum : sequencesTaken s ≤ 2 ^ 48
+  pub mark : not (s .copy) ≡ true
 
 pub parts-of : {s : State} → Sound s → Parts s
 parts-of f = record {
@@ -192,6 +217,7 @@ parts-of f = record {
   slotSum = f .slotSum;
   frameSum = f .frameSum;
   sequenceSum = f .sequenceSum;
+  mark = f .mark;
 }
 
 pub of-parts : {s : State} → Parts s → Sound s
@@ -217,9 +243,10 @@ of-parts p = record {
   slotSum = p .slotSum;
   frameSum = p .frameSum;
   sequenceSum = p .sequenceSum;
+  mark = p .mark;
 }
 
 -- the all-zero state is not sound
 pub all-zero-unsound : sound allZeroState ≡ false
-unfolding sound
+unfolding soundAs
 all-zero-unsound = refl

@@ -20,9 +20,9 @@ pub none-stored : {z : Sizes} {w : World} {b : Book} {history : List LogBlock} �
 none-stored {z} {w} {b} {history} g = subst (Good z w b) (sym (append-nil history)) g
 
 -- the block that is stored is the one in the slot of next
-pub one-stored : (z : Sizes) (range : Ranged z) (w w′ : World) (b′ : Book) (history : List LogBlock) (x : LogBlock) → w .state .next ≡ length history + 1
-    → Good z w′ b′ (history ++ (x ∷ [])) → Good z w′ b′ (history ++ newBlock z w w′)
-one-stored z range w w′ b′ history x nx g =
+pub new-block : (z : Sizes) (range : Ranged z) (w w′ : World) (b′ : Book) (history : List LogBlock) (x : LogBlock) → w .state .next ≡ length history + 1
+    → Good z w′ b′ (history ++ (x ∷ [])) → newBlock z w w′ ≡ x ∷ []
+new-block z range w w′ b′ history x nx g =
     let n : ℕ = length history + 1 in
     let ln : length (history ++ (x ∷ [])) ≡ length history + 1 = length-append history (x ∷ []) in
     let lt : n % z .slots < z .slots = mod-lt n (omega arith) in
@@ -31,4 +31,8 @@ one-stored z range w w′ b′ history x nx g =
     let e : getD (history ++ (x ∷ [])) (n - 1) noBlock ≡ x = ap (λ (i : ℕ). getD (history ++ (x ∷ [])) i noBlock) (omega arith) ∙ getD-append-seam history x [] noBlock in
     let q : slotAt (z .slots) (z .pages) (w′ .log) (w .state .next % z .slots) ≡ valid n x =
     ap (λ (i : ℕ). slotAt (z .slots) (z .pages) (w′ .log) (i % z .slots)) nx ∙ sym (get-slot (z .slots) (z .pages) (w′ .log) (n % z .slots) lt) ∙ r ∙ ap (valid n) e in
-    subst (λ (y : Slot). Good z w′ b′ (history ++ (blockOf y ∷ []))) (sym q) g
+    ap (λ (y : Slot). blockOf y ∷ []) q
+
+pub one-stored : (z : Sizes) (range : Ranged z) (w w′ : World) (b′ : Book) (history : List LogBlock) (x : LogBlock) → w .state .next ≡ length history + 1
+    → Good z w′ b′ (history ++ (x ∷ [])) → Good z w′ b′ (history ++ newBlock z w w′)
+one-stored z range w w′ b′ history x nx g = subst (λ (y : List LogBlock). Good z w′ b′ (history ++ y)) (sym (new-block z range w w′ b′ history x nx g)) g

@@ -5,7 +5,7 @@
 -- Assumes nothing.
 use mathlib.Core.Path.{_≡_}
 use Prim.Native.Nat.{ℕ}
-use mathlib.Core.Bool.{Bool, true}
+use mathlib.Core.Bool.{Bool, true, false}
 use mathlib.Core.List.{List, [], _∷_}
 use lib.ListN.{length}
 use Rattle.promises.specs.DirtyPages.{lookUp}
@@ -16,10 +16,11 @@ use Rattle.promises.specs.Events.{Sizes, World, Call, opening, begin, de
 use Rattle.promises.specs.Answers.{Reply}
 use Rattle.promises.specs.Claim.{Steps, Run, formatted, called, unfit, cut, cutUnfit, foundBy, InRange}
 
--- ---- two worlds alike: the same log and home, and states that say the same, each read with its own staging and its own frames
+-- ---- two worlds of desks alike: the same log and home, and states that say the same, each read with its own staging and its own frames
 pub record Alike (world other : World) : Type 0 where
   pub logIs : world .log ≡ other .log
   pub homeIs : world .home ≡ other .home
+  pub desks : (world .state .copy ≡ false) × (other .state .copy ≡ false)
   pub soundIs : sound (world .state) ≡ sound (other .state)
   pub contentsAre : contentsOf (world .state) (world .staging) ≡ contentsOf (other .state) (other .staging)
   pub dirtyAre : (page : ℕ) → lookUp page (dirtyOf (world .state) (world .frames)) ≡ lookUp page (dirtyOf (other .state) (other .frames))
@@ -40,7 +41,7 @@ asked cleanStep = cleanStep
 asked (reading page) = reading page
 asked (settling ticket) = settling ticket
 
--- one call, for any two worlds alike, of a run or not: the same reply, and worlds alike afterwards
+-- one call, for any two worlds of desks alike, of a run or not: the same reply, and worlds alike afterwards
 abbrev pub CallsAlike : Steps → Steps → Type 0
 CallsAlike by by′ = (sizes : Sizes) (world other : World) → Alike world other
     → (call call′ : Call) → asked call ≡ asked call′ → Lent sizes call → Lent sizes call′

@@ -19,6 +19,8 @@ pub mod LogStep
 pub mod CleanStep
 pub mod Read
 pub mod Settled
+pub mod Feed
+pub mod CopyOpen
 pub mod Book
 pub mod Events
 pub mod Claim
@@ -27,3 +29,4 @@ pub mod SilentLoss
 pub mod Corollaries
 pub mod Alike
 pub mod Waiting
+pub mod Copy

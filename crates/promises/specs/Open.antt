@@ -3,7 +3,7 @@
 -- Assumes nothing.
 use Prim.Native.Nat.{ℕ}
 use mathlib.Core.Path.{_≡_}
-use mathlib.Core.Bool.{Bool, true, cond, _&&_}
+use mathlib.Core.Bool.{Bool, true, false, cond, _&&_}
 use mathlib.Core.List.{List, []}
 use lib.ListN.{length, replicate}
 use lib.Dec.{eqb}
@@ -50,7 +50,7 @@ opened pages slots frames next ticket = record {
 }
 
 abbrev pub openedState : ℕ → ℕ → ℕ → ℕ → ℕ → List Dirty → State
-openedState pages slots frames next ticket dirty = setDirty (setBlock (emptyState pages slots frames) next ticket) dirty
+openedState pages slots frames next ticket dirty = setDirty (setBlock (emptyState false pages slots frames) next ticket) dirty
 
 pub record OpenStops (refusal place : ℕ) (frames : List ℕ) (result : OpenOutcome) (frames′ : List ℕ) : Type 0 where
   pub answerIs : openAnswered (result .answer) ≡ refuses refusal

@@ -14,12 +14,12 @@ use Rattle.promises.specs.States.{isOf}
 use Rattle.promises.specs.Areas.{pageAt, homeLength, framesLength}
 use Rattle.promises.specs.DirtyPages.{lookUp, shown}
 use Rattle.promises.specs.Contents.{dirtyOf}
-use Rattle.promises.specs.Sound.{sound}
+use Rattle.promises.specs.Sound.{readable}
 
 -- of the lengths
 unfoldable pub readRefusal : State → ℕ → ℕ → ℕ → ℕ
 readRefusal state home frames page =
-    cond (sound state)
+    cond (readable state)
     (cond (eqb home (homeLength (state .pages)) && eqb frames (framesLength (state .frames)))
     (cond (ltb page (state .pages)) 0 3) 1) 2
 

@@ -1,4 +1,4 @@
--- When a state is SOUND, clause by clause. In words: docs/CALLS.md.
+-- When a state is SOUND, a desk's or a copy's, clause by clause. In words: docs/CALLS.md.
 -- Assumes nothing.
 use Prim.Native.Nat.{ℕ, _+_}
 use mathlib.Core.Bool.{Bool, true, false, not, _&&_, _||_}
@@ -100,9 +100,11 @@ groupsSound state =
 abbrev pub reservationSound : State → Bool
 reservationSound state = leb (state .reserved) groupMost && leb (state .described) (state .reserved)
 
--- a half-stored group is the oldest queued one; that its stored updates end at next - 1 is how `groupStart` counts
-abbrev pub halfGroupSound : State → Bool
-halfGroupSound state = ofOldest (state .stored) (groupsOf state)
+-- a desk's half-stored group is the oldest queued one. A copy's needs no queued one, and nothing is open or queued there. That the stored
+-- updates end at next - 1 is how `groupStart` counts
+abbrev pub halfGroupSound : Bool → State → Bool
+halfGroupSound false state = ofOldest (state .stored) (groupsOf state)
+halfGroupSound true state = eqb (state .queued) 0 && eqb (state .reserved) 0
 
 -- a cleaning names a dirty page
 abbrev pub cleaningSound : State → Bool
@@ -120,9 +122,26 @@ frameSumSound state = leb (framesTaken state + reservedUpdates state) (state .fr
 abbrev pub sequenceSumSound : State → Bool
 sequenceSumSound state = leb (sequencesTaken state) sequenceEnd
 
--- that the last ended ticket is the committed one plus the queued groups is how `lastEnded` counts
-unfoldable pub sound : State → Bool
-sound state =
+-- it is a copy's, or a desk's
+abbrev pub markSound : Bool → State → Bool
+markSound false state = not (state .copy)
+markSound true state = state .copy
+
+-- as a desk's (false) or as a copy's (true). That the last ended ticket is the committed one plus the queued groups is how `lastEnded` counts
+unfoldable pub soundAs : Bool → State → Bool
+soundAs copy state =
     sizesSound state && dirtyPagesSound state && dirtyFramesSound state && firstGroupsSound state && ticketSound state
-    && stagedAreasSound state && stagedPlacesSound state && groupsSound state && reservationSound state && halfGroupSound state
-    && cleaningSound state && slotSumSound state && frameSumSound state && sequenceSumSound state
+    && stagedAreasSound state && stagedPlacesSound state && groupsSound state && reservationSound state && halfGroupSound copy state
+    && cleaningSound state && slotSumSound state && frameSumSound state && sequenceSumSound state && markSound copy state
+
+-- to the desk's calls
+abbrev pub sound : State → Bool
+sound state = soundAs false state
+
+-- to the feed
+abbrev pub copySound : State → Bool
+copySound state = soundAs true state
+
+-- to Read and Settled, which are a desk's calls and a copy's
+abbrev pub readable : State → Bool
+readable state = soundAs (state .copy) state

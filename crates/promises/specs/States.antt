@@ -3,7 +3,7 @@
 -- Assumes nothing.
 use Prim.Native.Nat.{ℕ}
 use mathlib.Core.Path.{_≡_}
-use mathlib.Core.Bool.{Bool, cond, not, _&&_}
+use mathlib.Core.Bool.{Bool, true, false, cond, not, _&&_}
 use mathlib.Core.List.{List, [], _∷_}
 use lib.ListN.{length, getD, replicate}
 use lib.Dec.{eqb}
@@ -21,9 +21,9 @@ free = record { page = 0; first = 0 }
 abbrev pub isOf : ℕ → Dirty → Bool
 isOf page entry = not (eqb (entry .first) 0) && eqb page (entry .page)
 
--- a state of these sizes, all else zero: nothing is dirty, queued or open, and no cleaning is under way
-abbrev pub emptyState : ℕ → ℕ → ℕ → State
-emptyState pages slots frames = record {
+-- a copy's state or a desk's, of these sizes, all else zero: nothing is dirty, queued or open, and no cleaning is under way
+abbrev pub emptyState : Bool → ℕ → ℕ → ℕ → State
+emptyState copy pages slots frames = record {
   pages = pages;
   slots = slots;
   frames = frames;
@@ -37,13 +37,14 @@ emptyState pages slots frames = record {
   reserved = 0;
   described = 0;
   cleaning = Idle;
+  copy = copy;
 }
 
 -- the all-zero state
 abbrev pub allZeroState : State
-allZeroState = emptyState 0 0 0
+allZeroState = emptyState false 0 0 0
 
--- a state with these values, of the same sizes: the setters below are made of it
+-- a state with these values, of the same sizes, a desk's or a copy's as before: the setters below are made of it
 abbrev pub stateWith : State → ℕ → ℕ → List Dirty → List Staged → List ℕ → ℕ → ℕ → ℕ → ℕ → Cleaning → State
 stateWith state next ticket dirty staged groups queued stored reserved described cleaning = record {
   pages = state .pages;
@@ -59,6 +60,7 @@ stateWith state next ticket dirty staged groups queued stored reserved described
   reserved = reserved;
   described = described;
   cleaning = cleaning;
+  copy = state .copy;
 }
 
 -- with this next sequence and this last committed ticket

@@ -54,10 +54,12 @@ pub struct State {
     // how many updates the open transaction has described
     pub described: usize,
     pub cleaning: Cleaning,
+    // whether this is a copy's state; else it is a desk's
+    pub copy: bool,
 }
 
 impl State {
-    // A state with nothing queued, nothing open and no cleaning.
+    // A desk's state with nothing queued, nothing open and no cleaning.
     pub fn idle(
         pages: usize,
         slots: usize,
@@ -87,6 +89,7 @@ impl State {
             reserved: 0,
             described: 0,
             cleaning: Cleaning::Idle,
+            copy: false,
         }
     }
 
@@ -119,11 +122,12 @@ impl State {
             reserved: self.reserved,
             described: self.described,
             cleaning,
+            copy: self.copy,
         }
     }
 }
 
-// Why a call is refused, in the order of the refusals' numbers, 1 to 11. docs/CALLS.md says what to do at each.
+// Why a call is refused, in the order of the refusals' numbers, 1 to 11, 13 and 14. docs/CALLS.md says what to do at each.
 pub enum Refusal {
     WrongLength,
     NotSound,
@@ -136,10 +140,12 @@ pub enum Refusal {
     TooFewFrames,
     NothingToDo,
     HeldBack,
+    BadBlock,
+    SequenceAhead,
 }
 
 impl Refusal {
-    // The number of a refusal, 1 to 11.
+    // The number of a refusal.
     pub fn number(self) -> u64
         ensures { λ r. ⌜ r ≡ numberOf self ⌝ }
     {
@@ -155,10 +161,12 @@ impl Refusal {
             Refusal::TooFewFrames => 9,
             Refusal::NothingToDo => 10,
             Refusal::HeldBack => 11,
+            Refusal::BadBlock => 13,
+            Refusal::SequenceAhead => 14,
         }
     }
 
-    // The refusal with a number.
+    // The refusal with a number, 1 to 11.
     pub fn of_number(number: u64) -> Refusal
         requires { ⌜ (1 ≤ number) × (number ≤ 11) ⌝ }
         ensures { λ r. ⌜ numberOf r ≡ number ⌝ }
@@ -225,6 +233,15 @@ pub enum Standing {
     No,
 }
 
+// What a copy's feed answers: the refusal with the place in the log; the copy had the block already; half a page was stored, and the block
+// is to be fed again; or the block is in the copy's log.
+pub enum Fed {
+    Refused(Refusal, u64),
+    Had,
+    NotYet,
+    Taken,
+}
+
 // What Begin, Describe and Clean step hand back.
 pub struct Outcome {
     pub state: State,
@@ -243,8 +260,14 @@ pub struct LogOutcome {
     pub answer: Logged,
 }
 
-// What Open hands back.
+// What Open and the opening of a copy hand back.
 pub struct OpenOutcome {
     pub state: State,
     pub answer: Opened,
+}
+
+// What a copy's feed hands back.
+pub struct FeedOutcome {
+    pub state: State,
+    pub answer: Fed,
 }

@@ -61,6 +61,7 @@ fn quiet(next: u64, ticket: u64, dirty: [Dirty; 32], cleaning: Cleaning) -> Stat
         reserved: 0,
         described: 0,
         cleaning,
+        copy: false,
     }
 }
 

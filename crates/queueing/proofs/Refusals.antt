@@ -3,7 +3,7 @@
 -- Assumes nothing.
 use mathlib.Core.Path.{_≡_, refl, sym, ap, _∙_, subst}
 use mathlib.Core.Logic.{_⊎_, inl, inr}
-use mathlib.Core.Bool.{true, false, _&&_, and-assoc}
+use mathlib.Core.Bool.{Bool, true, false, _&&_, and-assoc}
 use mathlib.Core.List.{List}
 use Prim.Native.Nat.{ℕ, _+_, _*_, _/_, _^_, _≤_, _<_}
 use native.Mathlib.Omega.{arith}
@@ -23,7 +23,7 @@ use Rattle.promises.specs.Areas.{logFits}
 use Rattle.promises.specs.Updates.{Update}
 use Rattle.promises.specs.Contents.{contentsOf, total, groupsOf}
 use Rattle.promises.specs.Sums.{waitingBlocks, lastEnded}
-use Rattle.promises.specs.Sound.{sound}
+use Rattle.promises.specs.Sound.{soundAs, sound, readable}
 use Rattle.promises.specs.Leaves.{Leaves}
 use Rattle.promises.specs.Format.{formatRefusal, Formats}
 use Rattle.promises.specs.Begin.{beginInRange, beginHasRoom, beginRefusal, begun, begunState, Begins}
@@ -32,7 +32,7 @@ use Rattle.promises.specs.End.{endRefusal, Ends}
 use Rattle.promises.specs.Settled.{settledRefusal, Settles}
 use Rattle.promises.specs.Read.{readRefusal}
 use Rattle.promises.proofs.Replies.{replied-refused}
-use Rattle.promises.proofs.Soundness.{Sound, sound-of}
+use Rattle.promises.proofs.Soundness.{Sound, SoundAs, sound-of, sound-as-of}
 use Rattle.promises.proofs.Changes.{pick-zero, pick-other, begin-met, describe-passed, groups-count}
 use Rattle.soundness.specs.declared.sums.Sums.{Sums}
 use Rattle.soundness.specs.Summed.{Summed}
@@ -101,8 +101,8 @@ module _ (number : ℕ) (a : Answer) (told : answered a ≡ replied number done)
 -- ---- accepted calls
 
 -- in a sound state the last ended ticket fits
-pub tickets-fit : (s : State) → length (s .groups) ≡ 32 → sound s ≡ true → s .ticket + s .queued ≤ 2 ^ 49
-tickets-fit s long h = let f : Sound s = sound-of s h in omega (arith, f .ticket, f .sequenceSum, f .queued)
+pub tickets-fit : (copy : Bool) (s : State) → length (s .groups) ≡ 32 → soundAs copy s ≡ true → s .ticket + s .queued ≤ 2 ^ 49
+tickets-fit copy s long h = let f : SoundAs copy s = sound-as-of copy s h in omega (arith, f .ticket, f .sequenceSum, f .queued)
 
 -- the queue has a place for one group more
 pub record Closable (s : State) : Type 0 where
@@ -122,7 +122,7 @@ closable s long e =
     record {
       queued = omega (arith, f .frameSum, f .frames, reserved-is s);
       described = omega (arith, f .described, f .reserved);
-      tickets = tickets-fit s long (c2 .0);
+      tickets = tickets-fit false s long (c2 .0);
     }
 
 -- there is room for one update more, and its numbers fit
@@ -154,21 +154,21 @@ describable s staging page offset count long e =
 
 -- the areas are as long as the state says, and the page is one of home's
 pub record Readable (s : State) (home frames page : ℕ) : Type 0 where
-  pub sounds : sound s ≡ true
+  pub sounds : readable s ≡ true
   pub home-long : home ≡ s .pages * 1024
   pub frames-long : frames ≡ s .frames * 1024
   pub page-below : page < s .pages
   pub pages-most : s .pages ≤ 4096
   pub frames-most : s .frames ≤ 32
 
-pub readable : (s : State) (home frames page : ℕ) → readRefusal s home frames page ≡ 0 → Readable s home frames page
+pub read-passed : (s : State) (home frames page : ℕ) → readRefusal s home frames page ≡ 0 → Readable s home frames page
 unfolding readRefusal
-readable s home frames page e =
-    let c2 = pick-zero (sound s) _ 2 (omega arith) e in
+read-passed s home frames page e =
+    let c2 = pick-zero (readable s) _ 2 (omega arith) e in
     let c1 = pick-zero (eqb home (s .pages * 1024) && eqb frames (s .frames * 1024)) _ 1 (omega arith) (c2 .1) in
     let c3 = pick-zero (ltb page (s .pages)) 0 3 (omega arith) (c1 .1) in
     let l = simp tests at (c1 .0) in
-    let f : Sound s = sound-of s (c2 .0) in
+    let f : SoundAs (s .copy) s = sound-as-of (s .copy) s (c2 .0) in
     record {
       sounds = c2 .0;
       home-long = l .0;

@@ -4,7 +4,7 @@ ghost use Prim.Native.Nat.{_+_, _≤_};
 ghost use lib.Dec.{leb};
 ghost use Rattle.block.specs.Sizes.{sequenceEnd};
 ghost use Rattle.promises.specs.Sums.{waitingBlocks};
-ghost use Rattle.promises.specs.Sound.{sound};
+ghost use Rattle.promises.specs.Sound.{sound, readable};
 ghost use Rattle.promises.specs.Format.{formatRefusal};
 ghost use Rattle.promises.specs.Begin.{beginInRange, beginHasRoom, beginRefusal};
 ghost use Rattle.promises.specs.Describe.{describeRefusal};
@@ -128,9 +128,9 @@ pub fn end_refusal(holds: bool, state: State) -> u64
     0
 }
 
-// Settled, of whether the state is sound and of a ticket: 2; 3.
+// Settled, of whether the state, a desk's or a copy's, is sound and of a ticket: 2; 3.
 pub fn settled_refusal(holds: bool, state: State, ticket: u64) -> u64
-    requires { ⌜ holds ≡ sound state ⌝ }
+    requires { ⌜ holds ≡ readable state ⌝ }
     ensures { λ r. ⌜ (r ≡ settledRefusal state ticket) × (r ≤ 11) ⌝ }
 {
     if !holds {
@@ -143,9 +143,9 @@ pub fn settled_refusal(holds: bool, state: State, ticket: u64) -> u64
     3
 }
 
-// Read, of whether the state is sound, of the lengths of home and frames and of the page: 2; 1; 3.
+// Read, of whether the state, a desk's or a copy's, is sound, of the lengths of home and frames and of the page: 2; 1; 3.
 pub fn read_refusal(holds: bool, state: State, home: usize, frames: usize, page: usize) -> u64
-    requires { ⌜ holds ≡ sound state ⌝ }
+    requires { ⌜ holds ≡ readable state ⌝ }
     ensures { λ r. ⌜ (r ≡ readRefusal state home frames page) × (r ≤ 11) ⌝ }
 {
     if !holds {

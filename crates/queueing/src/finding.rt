@@ -3,7 +3,7 @@ ghost use mathlib.Core.Path.{_≡_};
 ghost use mathlib.Core.Bool.{true, false};
 ghost use Prim.Native.Nat.{_<_, _≤_};
 ghost use lib.ListN.{take};
-ghost use Rattle.promises.specs.Sound.{sound, member, areasOf};
+ghost use Rattle.promises.specs.Sound.{readable, member, areasOf};
 ghost use Rattle.promises.specs.Read.{heldIn};
 ghost use Rattle.queueing.specs.Queueing.{heldAt};
 use promises::Staged;
@@ -30,7 +30,7 @@ pub fn free_area(staged: [Staged; 32], count: usize, frames: usize) -> u8
 
 // The frame that holds a page; the count of frames where the page is at home.
 pub fn frame_of(state: State, page: u16) -> usize
-    requires { ⌜ sound state ≡ true ⌝ }
+    requires { ⌜ readable state ≡ true ⌝ }
     ensures { λ r. ⌜ (heldIn page 0 (state .dirty) ≡ heldAt (state .frames) r) × (r ≤ state .frames) ⌝ }
 {
     let frames = state.frames;

@@ -73,10 +73,10 @@ cleans-as walk s page ticket ticket′ r e x = subst (λ (t : ℕ). Cleans walk 
 module _ (slots last : ℕ) (walk : Walk) where
   pub tested-not : (walk .stage .refusal ≡ 0 → ⊥) → walk ≡ tested slots last walk
   unfolding tested
-  tested-not n = sym (ap (λ (b : Bool). cond b (cond (spanFits (walk .table) slots (last + 1)) walk (refusedAt walk 8 last)) walk) (ne-eqb _ _ n))
+  tested-not n = sym (ap (λ (b : Bool). cond b (cond (spanFits (walk .table) slots (last + 1) (last + 1)) walk (refusedAt walk 8 last)) walk) (ne-eqb _ _ n))
 
-  pub tested-by : (b : Bool) → walk .stage .refusal ≡ 0 → spanFits (walk .table) slots (last + 1) ≡ b → cond b walk (refusedAt walk 8 last) ≡ tested slots last walk
+  pub tested-by : (b : Bool) → walk .stage .refusal ≡ 0 → spanFits (walk .table) slots (last + 1) (last + 1) ≡ b → cond b walk (refusedAt walk 8 last) ≡ tested slots last walk
   unfolding tested
   tested-by b e f =
-      sym (ap (λ (c : Bool). cond c (cond (spanFits (walk .table) slots (last + 1)) walk (refusedAt walk 8 last)) walk) (eq-eqb _ _ e)
+      sym (ap (λ (c : Bool). cond c (cond (spanFits (walk .table) slots (last + 1) (last + 1)) walk (refusedAt walk 8 last)) walk) (eq-eqb _ _ e)
       ∙ ap (λ (c : Bool). cond c walk (refusedAt walk 8 last)) f)

@@ -48,7 +48,7 @@ legal-placed log home s index page offset count v e =
     let f : UpdateFacts pages index page offset count = update-facts slots pages (b .sequence) (b .«keep_from») index page offset count (b .ticket) rules .1 in
     subst (Placed pages) (sym e) (f .page-below, f .length-most, f .end)
 
-placed-page : (pages : ℕ) (kind : format.Kind) (bytes : List ℕ) → Placed pages kind → changeIn kind bytes .page < pages
+pub placed-page : (pages : ℕ) (kind : format.Kind) (bytes : List ℕ) → Placed pages kind → changeIn kind bytes .page < pages
 placed-page pages (format.the-variants.Update index page offset count) bytes p = p .0
 placed-page pages (format.the-variants.Commit updates) bytes p = absurd p
 placed-page pages (format.the-variants.Clean page) bytes p = absurd p
@@ -59,7 +59,7 @@ early-later : (pages s : ℕ) (es : List DirtyPage) → Each (Early pages s) es 
 early-later pages s [] x = tt
 early-later pages s (e ∷ es) x = ((x .0 .0, x .0 .1, omega (arith, x .0 .2)), early-later pages s es (x .1))
 
-each-group : (Q : ℕ → ℕ → Type 0) (log : List ℕ) (home : ℕ → List ℕ) (group s n : ℕ) (es : List DirtyPage)
+pub each-group : (Q : ℕ → ℕ → Type 0) (log : List ℕ) (home : ℕ → List ℕ) (group s n : ℕ) (es : List DirtyPage)
     → ((i : ℕ) → i < n → Q (updateOf log (s + i) .page) group) → Each Q es → Each Q (applyAll group home (updatesFrom log s n) es)
 unfolding updatesFrom applyAll
 each-group Q log home group s zero es f x = x
@@ -131,6 +131,7 @@ module _ (log home : List ℕ) (s : ℕ) (walk : Walk) (frames : List ℕ) (v : 
       begins = λ h. legal-numbers log home s v .0;
       few = omega (arith, legal-numbers log home s v .0);
       ticketBelow = omega (arith, y .ticketBelow);
+      ticketEarly = λ h. y .ticketBelow;
       placed = λ i h. subst (λ (j : ℕ). Placed (pagesIn (length home)) (headerOf log j .kind)) (at-zero i h) here;
     }
       where
@@ -149,6 +150,7 @@ module _ (log home : List ℕ) (s : ℕ) (walk : Walk) (frames : List ℕ) (v : 
           begins = λ h. y .begins (n .0);
           few = omega (arith, n .1, y .few);
           ticketBelow = omega (arith, y .ticketBelow);
+          ticketEarly = λ h. y .ticketEarly (n .0);
           placed = λ i h.
               elim (native.Mathlib.Decide.ℕ-discrete i (walk .stage .count)) [
                 | yes q ↦ subst (λ (j : ℕ). Placed (pagesIn (length home)) (headerOf log j .kind)) (last i q end) here
@@ -272,6 +274,7 @@ module _ (log home : List ℕ) (s : ℕ) (walk : Walk) (frames : List ℕ) (v : 
       begins = λ x. absurd (omega arith);
       few = omega arith;
       ticketBelow = omega (arith, y .ticketBelow);
+      ticketEarly = λ x. absurd (omega arith);
       placed = λ i x. absurd (omega arith);
     }
 
@@ -351,6 +354,7 @@ module _ (log home : List ℕ) (s : ℕ) (walk : Walk) (frames : List ℕ) (v : 
       begins = λ x. absurd (omega arith);
       few = omega arith;
       ticketBelow = omega (arith, legal-numbers log home s v .1);
+      ticketEarly = λ x. absurd (omega arith);
       placed = λ i x. absurd (omega arith);
     }
 

@@ -78,22 +78,24 @@ pub record Commits (log home : List ℕ) (walk : Walk) (frames : List ℕ) (sequ
       → (table : Table) × AppliesAll (walk .table) home frames (updatesFrom log (walk .stage .start) (walk .stage .count)) (walk .stage .start) table frames′
       × (result ≡ cond (table .full) (refusedAt (closedWith walk ticket table) 9 sequence) (closedWith walk ticket table))
 
--- what the last block's number and the table tell: H + D is at most N
-abbrev pub spanFits : Table → ℕ → ℕ → Bool
-spanFits table slots next = leb (next - smallest next (firstGroups (table .dirty)) + length (firstGroups (table .dirty))) slots
+-- what the last block's number and the table tell, with an own number beside the first groups: H + D is at most N
+abbrev pub spanFits : Table → ℕ → ℕ → ℕ → Bool
+spanFits table slots next own = leb (next - smallest own (firstGroups (table .dirty)) + length (firstGroups (table .dirty))) slots
 
 -- the last test: H + D above N is 8 at M
 unfoldable pub tested : ℕ → ℕ → Walk → Walk
-tested slots last walk = cond (eqb (walk .stage .refusal) 0) (cond (spanFits (walk .table) slots (last + 1)) walk (refusedAt walk 8 last)) walk
+tested slots last walk = cond (eqb (walk .stage .refusal) 0) (cond (spanFits (walk .table) slots (last + 1) (last + 1)) walk (refusedAt walk 8 last)) walk
 
 -- ---- beside the promised walk
 
--- the walk may meet the block of this sequence: its half group ends before it, with updates that fit home, and its ticket is below it
+-- the walk may meet the block of this sequence: its half group ends before it, with updates that fit home, and its ticket is below it and
+-- below the half group's start
 pub record Ready (log home : List ℕ) (sequence : ℕ) (walk : Walk) : Type 0 where
   pub half : 0 < walk .stage .count → walk .stage .start + walk .stage .count ≡ sequence
   pub begins : 0 < walk .stage .count → 1 ≤ walk .stage .start
   pub few : walk .stage .count ≤ sequence
   pub ticketBelow : walk .stage .ticket < sequence
+  pub ticketEarly : 0 < walk .stage .count → walk .stage .ticket < walk .stage .start
   pub placed : (i : ℕ) → i < walk .stage .count → Placed (pagesIn (length home)) (headerOf log (walk .stage .start + i) .kind)
 
 -- a dirty page is below P, and its first group is from 1 to before this sequence

@@ -142,7 +142,7 @@ pub fn missing(sequences: &[u64], first: u64, last: u64) -> u64
 }
 
 // The bytes of a slot: a part of the log.
-fn slot_bytes(log: &[u8], slot: usize) -> &[u8]
+pub fn slot_bytes(log: &[u8], slot: usize) -> &[u8]
     requires { ⌜ slot < slotsIn (length (now log)) ⌝ }
     ensures { λ r. ⌜ (now r ≡ slotBytes (now (log .entry)) slot) × (length (now r) ≡ blockSize) ⌝ }
 {
@@ -210,7 +210,7 @@ fn apply_stored(
 }
 
 // The group of so many updates that starts at a sequence takes effect. False: a page found no frame, and the rest is left out.
-fn apply_group(
+pub fn apply_group(
     seats: &mut [u64],
     log: &[u8],
     home: &[u8],
@@ -380,12 +380,12 @@ pub fn walk_all(
     w
 }
 
-// Whether H + D is at most the count of slots.
-fn span_fits(seats: &[u64], slots: usize, next: u64) -> bool
-    requires { ⌜ (length (now seats) ≤ 32) × (slots ≤ 1024) × (next ≤ sequenceEnd) ⌝ }
-    ensures { λ r. ⌜ r ≡ spanFits (seated false (now (seats .entry))) slots next ⌝ }
+// Whether H + D is at most the count of slots; an own number, a half group's start or next, counts beside the first groups.
+pub fn span_fits(seats: &[u64], slots: usize, next: u64, own: u64) -> bool
+    requires { ⌜ (length (now seats) ≤ 32) × (slots ≤ 1024) × (next ≤ sequenceEnd) × (own ≤ next) ⌝ }
+    ensures { λ r. ⌜ r ≡ spanFits (seated false (now (seats .entry))) slots next own ⌝ }
 {
-    let held = next - table::seats::oldest(seats, next);
+    let held = next - table::seats::oldest(seats, own);
     let dirty = table::seats::dirty_pages(seats) as u64;
     held + dirty <= slots as u64
 }
@@ -398,7 +398,8 @@ pub fn last_test(stage: Stage, seats: &[u64], slots: usize, last: u64) -> Stage
     if stage.refusal != 0 {
         return stage;
     }
-    if !span_fits(seats, slots, last + 1) {
+    let next = last + 1;
+    if !span_fits(seats, slots, next, next) {
         return refused(stage, 8, last);
     }
     stage

@@ -8,16 +8,15 @@ use lib.Dec.{leb, ltb}
 use lib.ListN.{length}
 use lib.Seq.{length-take-le}
 use borrow.Author.Tests.{eq-eqb, ne-eqb}
-use Rattle.area.proofs.Laws.{and-both}
 use Rattle.promises.specs.declared.State.{State}
 use Rattle.promises.specs.Contents.{total, groupsOf}
 use Rattle.promises.specs.Sums.{firstGroups, groupStart, smallest, blockCount, dirtyCount, owedBlocks, reservedUpdates, waitingBlocks}
 use Rattle.soundness.specs.declared.sums.Sums.{Sums}
-use Rattle.promises.specs.Sound.{sizesLegal, ofOldest, sound}
-use Rattle.promises.proofs.Soundness.{Sound, sound-of}
-use Rattle.promises.proofs.Changes.{held-is, stored-few}
+use Rattle.promises.specs.Sound.{sizesLegal, soundAs}
+use Rattle.promises.proofs.Soundness.{SoundAs, sound-as-of}
+use Rattle.promises.proofs.Changes.{held-is}
 use Rattle.block.proofs.Tests.{tests}
-use Rattle.soundness.specs.Tests.{inRange, fitting, countsLegal}
+use Rattle.soundness.specs.Tests.{inRange, fitting, kindLegal, countsLegal}
 use Rattle.soundness.specs.Summed.{Addable, Summed, Small}
 use Rattle.soundness.proofs.Scans.{blocks-total}
 
@@ -44,24 +43,20 @@ pub waiting-is : (s : State) → s .queued ≤ length (s .groups) → waitingBlo
 waiting-is s h = ap (λ (n : ℕ). n - s .stored) (blocks-queued s h)
 
 -- the sums from the oldest group, the count of dirty pages and V
-pub summed : (s : State) (low count queued : ℕ) → length (s .groups) ≡ 32 → Addable s → low ≡ smallest (groupStart s) (firstGroups (s .dirty))
-    → (count ≡ dirtyCount s) × (count ≤ 32) → (queued ≡ total (groupsOf s)) × (queued ≤ 8160)
-    → Summed s (record { held = s .next - low; waiting = queued + s .queued - s .stored; dirty = count; queued = queued })
-summed s low count queued long a oldest dirty total =
+pub summed : (s : State) (low count queued left : ℕ) → length (s .groups) ≡ 32 → Addable s → low ≡ smallest (groupStart s) (firstGroups (s .dirty))
+    → (count ≡ dirtyCount s) × (count ≤ 32) → (queued ≡ total (groupsOf s)) × (queued ≤ 8160) → left ≡ queued + s .queued - s .stored
+    → Summed s (record { held = s .next - low; waiting = left; dirty = count; queued = queued })
+summed s low count queued left long a oldest dirty total rest =
     record {
       held = ap (λ (n : ℕ). s .next - n) (oldest ∙ sym (held-is s));
-      waiting = ap (λ (n : ℕ). n + s .queued - s .stored) (total .0) ∙ sym (waiting-is s (omega (arith, a .queued)));
+      waiting = rest ∙ ap (λ (n : ℕ). n + s .queued - s .stored) (total .0) ∙ sym (waiting-is s (omega (arith, a .queued)));
       dirty = dirty .0;
       queued = total .0;
       held-most = omega (arith, a .next);
-      waiting-most = omega (arith, a .queued);
+      waiting-most = omega (arith, a .queued, rest);
       dirty-most = dirty .1;
       queued-most = total .1;
     }
-
--- no more blocks are stored than are queued
-pub stored-most : (s : State) → length (s .groups) ≡ 32 → Addable s → s .stored ≤ total (groupsOf s) + s .queued
-stored-most s long a = omega (arith, blocks-queued s (omega (arith, a .queued)), a .stored-queued)
 
 -- the code's tests of the sums
 pub fit-law : (s : State) (t : Sums) (owed : ℕ) → Summed s t → owed ≡ owedBlocks s
@@ -90,22 +85,14 @@ of-range s r = simp tests (omega arith)
 pub queued-range : (s : State) → inRange s ≡ true → s .queued ≤ 32
 queued-range s h = range-of s h .queued
 
--- sums can be added up where the numbers are in range and the queue is as it has to be
-pub addable : (s : State) → inRange s ≡ true → (sizesLegal (groupsOf s) && ofOldest (s .stored) (groupsOf s)) ≡ true → Addable s
-addable s h g =
-    let r = range-of s h in
-    record {
-      queued = r .queued;
-      reserved = r .reserved;
-      next = r .next;
-      stored = r .stored;
-      stored-queued = stored-few (s .stored) (groupsOf s) (and-both (sizesLegal (groupsOf s)) (ofOldest (s .stored) (groupsOf s)) g .1);
-    }
+-- sums can be added up where the numbers are in range
+pub addable : (s : State) → inRange s ≡ true → Addable s
+addable s h = let r = range-of s h in record { queued = r .queued; reserved = r .reserved; next = r .next; stored = r .stored }
 
 -- in a sound state the sums are within the sizes
-pub sums-small : (s : State) (t : Sums) → sound s ≡ true → Summed s t → Small s t
-sums-small s t h e =
-    let f : Sound s = sound-of s h in
+pub sums-small : (copy : Bool) (s : State) (t : Sums) → soundAs copy s ≡ true → Summed s t → Small s t
+sums-small copy s t h e =
+    let f : SoundAs copy s = sound-as-of copy s h in
     record {
       slots = rw (e .held, e .waiting, e .dirty, e .queued) (omega (arith, f .slotSum));
       slots-most = f .slots .1;
@@ -116,14 +103,14 @@ sums-small s t h e =
 
 -- ---- the tests of the counts, one after the other
 
-pub counts-range : (s : State) → inRange s ≡ false → false ≡ countsLegal s
+pub counts-range : (copy : Bool) (s : State) → inRange s ≡ false → false ≡ countsLegal copy s
 unfolding countsLegal
-counts-range s e = sym (ap (λ (b : Bool). b && (sizesLegal (groupsOf s) && ofOldest (s .stored) (groupsOf s)) && fitting s) e)
+counts-range copy s e = sym (ap (λ (b : Bool). b && (sizesLegal (groupsOf s) && kindLegal copy s) && fitting s) e)
 
-pub counts-groups : (s : State) → inRange s ≡ true → (sizesLegal (groupsOf s) && ofOldest (s .stored) (groupsOf s)) ≡ false → false ≡ countsLegal s
+pub counts-groups : (copy : Bool) (s : State) → inRange s ≡ true → (sizesLegal (groupsOf s) && kindLegal copy s) ≡ false → false ≡ countsLegal copy s
 unfolding countsLegal
-counts-groups s e g = sym (ap (λ (b : Bool). b && (sizesLegal (groupsOf s) && ofOldest (s .stored) (groupsOf s)) && fitting s) e ∙ ap (λ (b : Bool). b && fitting s) g)
+counts-groups copy s e g = sym (ap (λ (b : Bool). b && (sizesLegal (groupsOf s) && kindLegal copy s) && fitting s) e ∙ ap (λ (b : Bool). b && fitting s) g)
 
-pub counts-fit : (s : State) → inRange s ≡ true → (sizesLegal (groupsOf s) && ofOldest (s .stored) (groupsOf s)) ≡ true → fitting s ≡ countsLegal s
+pub counts-fit : (copy : Bool) (s : State) → inRange s ≡ true → (sizesLegal (groupsOf s) && kindLegal copy s) ≡ true → fitting s ≡ countsLegal copy s
 unfolding countsLegal
-counts-fit s e g = sym (ap (λ (b : Bool). b && (sizesLegal (groupsOf s) && ofOldest (s .stored) (groupsOf s)) && fitting s) e ∙ ap (λ (b : Bool). b && fitting s) g)
+counts-fit copy s e g = sym (ap (λ (b : Bool). b && (sizesLegal (groupsOf s) && kindLegal copy s) && fitting s) e ∙ ap (λ (b : Bool). b && fitting s) g)

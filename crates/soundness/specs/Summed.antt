@@ -3,8 +3,7 @@
 use Prim.Native.Nat.{_+_, _^_, _≤_, _<_}
 use mathlib.Core.Path.{_≡_}
 use Rattle.promises.specs.declared.State.{State}
-use Rattle.promises.specs.Contents.{groupsOf}
-use Rattle.promises.specs.Sums.{blockCount, heldSlots, waitingBlocks, dirtyCount, queuedUpdates}
+use Rattle.promises.specs.Sums.{heldSlots, waitingBlocks, dirtyCount, queuedUpdates}
 use Rattle.soundness.specs.declared.sums.Sums.{Sums}
 
 -- no sum over the state wraps
@@ -13,7 +12,6 @@ pub record Addable (state : State) : Type 0 where
   pub reserved : state .reserved ≤ 16
   pub next : state .next ≤ 2 ^ 48
   pub stored : state .stored < state .next
-  pub stored-queued : state .stored ≤ blockCount (groupsOf state)
 
 -- H, W, D and V
 pub record Summed (state : State) (sums : Sums) : Type 0 where

@@ -11,7 +11,7 @@ use Rattle.promises.specs.declared.State.{State}
 use Rattle.promises.specs.declared.Dirty.{Dirty}
 use Rattle.promises.specs.declared.Staged.{Staged}
 use Rattle.promises.specs.Contents.{groupsOf}
-use Rattle.promises.specs.Sound.{distinct, dirtyNumbers, areasOf, cleaningSound, sizesLegal, ofOldest, ticketSound, slotSumSound, frameSumSound, sequenceSumSound}
+use Rattle.promises.specs.Sound.{distinct, dirtyNumbers, areasOf, cleaningSound, sizesLegal, halfGroupSound, markSound, ticketSound, slotSumSound, frameSumSound, sequenceSumSound}
 
 -- single numbers in range
 abbrev pub inRange : State → Bool
@@ -24,9 +24,13 @@ inRange state =
 abbrev pub fitting : State → Bool
 fitting state = ticketSound state && slotSumSound state && frameSumSound state && sequenceSumSound state
 
+-- a half-stored group as in a copy's state or in a desk's, and a state of that kind
+abbrev pub kindLegal : Bool → State → Bool
+kindLegal copy state = halfGroupSound copy state && markSound copy state
+
 -- all but the entries of the arrays
-unfoldable pub countsLegal : State → Bool
-countsLegal state = inRange state && (sizesLegal (groupsOf state) && ofOldest (state .stored) (groupsOf state)) && fitting state
+unfoldable pub countsLegal : Bool → State → Bool
+countsLegal copy state = inRange state && (sizesLegal (groupsOf state) && kindLegal copy state) && fitting state
 
 -- a frame is free, or below F with a page below P and a first group below next
 abbrev pub entryLegal : ℕ → ℕ → ℕ → ℕ → Dirty → Bool

@@ -1,4 +1,5 @@
-// Whether a state is sound, for any bits in it, and the sums D, H, W and V over it (docs/CALLS.md). Knows the state alone, not the areas.
+// Whether a state is sound, a desk's or a copy's, for any bits in it, and the sums D, H, W and V over it (docs/CALLS.md). Knows the state
+// alone, not the areas.
 pub mod dirty;
 pub mod numbers;
 pub mod queued;
@@ -7,8 +8,10 @@ pub mod wide;
 
 ghost use mathlib.Core.Path.{_≡_};
 ghost use mathlib.Core.Bool.{false};
-ghost use Rattle.soundness.specs.Tests.{inRange};
-ghost use Rattle.soundness.specs.Verdicts.{Judges};
+ghost use lib.ListN.{getD};
+ghost use Rattle.promises.specs.Contents.{groupsOf};
+ghost use Rattle.soundness.specs.Tests.{inRange, kindLegal};
+ghost use Rattle.soundness.specs.Verdicts.{JudgesAs};
 use promises::State;
 use sums::Sums;
 
@@ -52,16 +55,28 @@ fn unsound() -> Verdict
     Verdict { sound: false, sums }
 }
 
-// Whether a state is sound, and the sums over it where it is.
-pub fn checked(state: State) -> Verdict
-    ensures { λ r. ⌜ Judges state r ⌝ }
+// Whether a half-stored group is as it has to be in a copy's state or in a desk's, and the state is of that kind. `oldest`: how many updates
+// the oldest queued group has, 0 where none is queued.
+fn kind_legal(state: State, copy: bool, oldest: usize) -> bool
+    requires { ⌜ oldest ≡ getD (groupsOf state) 0 0 ⌝ }
+    ensures { λ r. ⌜ r ≡ kindLegal copy state ⌝ }
+{
+    if copy {
+        return (state.queued == 0) & (state.reserved == 0) & state.copy;
+    }
+    (state.stored <= oldest) & !state.copy
+}
+
+// Whether a state is sound as a copy's or as a desk's, and the sums over it where it is.
+pub fn checked_as(state: State, copy: bool) -> Verdict
+    ensures { λ r. ⌜ JudgesAs copy state r ⌝ }
 {
     if !in_range(state) {
         return unsound();
     }
     let groups = state.groups;
     let sizes = queued::sizes_of(groups, state.queued);
-    if !(sizes.legal & (state.stored <= sizes.oldest)) {
+    if !(sizes.legal & kind_legal(state, copy, sizes.oldest)) {
         return unsound();
     }
     let dirty = state.dirty;
@@ -77,7 +92,7 @@ pub fn checked(state: State) -> Verdict
     let queued = sizes.updates;
     let sums = Sums {
         held: (state.next - survey.low) as usize,
-        waiting: queued + state.queued - state.stored,
+        waiting: sums::left(queued + state.queued, state.stored),
         dirty: survey.count,
         queued,
     };

@@ -1,6 +1,6 @@
 // The sums over a state.
 ghost use mathlib.Core.Path.{_≡_};
-ghost use Prim.Native.Nat.{_≤_};
+ghost use Prim.Native.Nat.{_-_, _≤_};
 ghost use Rattle.promises.specs.Sums.{owedBlocks};
 ghost use Rattle.soundness.specs.Tests.{fitting};
 ghost use Rattle.soundness.specs.Summed.{Addable, Summed};
@@ -12,6 +12,16 @@ pub struct Sums {
     pub waiting: usize,
     pub dirty: usize,
     pub queued: usize,
+}
+
+// How many of so many blocks are left once some are stored.
+pub fn left(blocks: usize, stored: usize) -> usize
+    ensures { λ r. ⌜ r ≡ blocks - stored ⌝ }
+{
+    if blocks < stored {
+        return 0;
+    }
+    blocks - stored
 }
 
 // What the open transaction owes: R + 1 blocks, none where none is open.

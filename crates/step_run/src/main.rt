@@ -225,6 +225,7 @@ fn state_of(
         reserved: 0,
         described: 0,
         cleaning,
+        copy: false,
     }
 }
 

@@ -19,6 +19,8 @@ use Rattle.promises.specs.declared.Refusal.the-variants.{
   TooFewFrames,
   NothingToDo,
   HeldBack,
+  BadBlock,
+  SequenceAhead,
 }
 use Rattle.promises.specs.declared.Logged.the-variants.{Refused as LogRefused}
 use Rattle.promises.specs.Answers.{refuses, numberOf}
@@ -37,6 +39,8 @@ numbered LogOutOfOrder = omega arith
 numbered TooFewFrames = omega arith
 numbered NothingToDo = omega arith
 numbered HeldBack = omega arith
+numbered BadBlock = omega arith
+numbered SequenceAhead = omega arith
 
 pub log-refused : (s : State) (log home frames staging : List ℕ) (refusal : Refusal) → numberOf refusal ≡ logRefusalOf s log home frames staging
     → LogSteps s log home frames staging (record { state = s; answer = LogRefused refusal }) log frames

@@ -31,6 +31,16 @@ pub fn store(log: &mut [u8], slots: usize, block: Block, new: &[u8])
     block::write(&mut log[at..at + Block::SIZE], block, new);
 }
 
+// Stores the 512 bytes of a block in the slot of its sequence, in a log of so many slots.
+pub fn store_bytes(log: &mut [u8], slots: usize, sequence: u64, bytes: &[u8])
+    requires { ⌜ (1 ≤ slots) × (slots ≤ 1024) × (length (now log) ≡ logLength slots) × (length (now bytes) ≡ blockSize) ⌝ }
+    ensures { λ _. ⌜ now (log .exit) ≡ withSlot (now (log .entry)) (slotOf slots sequence) (now (bytes .entry)) ⌝ }
+{
+    let place = (sequence % slots as u64) as usize;
+    let at = place * Block::SIZE;
+    area::copy(&mut log[at..at + Block::SIZE], bytes);
+}
+
 // Stores half a page at home: the bytes of frames from index from on go to index to.
 pub fn store_half(home: &mut [u8], to: usize, frames: &[u8], from: usize)
     requires { ⌜ (to + blockSize ≤ length (now home)) × (from + blockSize ≤ length (now frames)) ⌝ }

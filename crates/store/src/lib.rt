@@ -96,7 +96,7 @@ pub fn begin(state: State, u: usize) -> Outcome
     ensures { λ r. ⌜ Begins state u r ⌝ }
 {
     let mut after = state;
-    let verdict = soundness::checked(after);
+    let verdict = soundness::checked_as(after, false);
     let number = deciding::begin_refusal(verdict, after, u);
     if number == 0 {
         after.reserved = u;
@@ -128,7 +128,7 @@ pub fn describe(
     ensures { λ r. ⌜ Describes state (updateOf page offset (now (bytes .entry))) (now (staging .entry)) r (now (staging .exit)) ⌝ }
 {
     let mut after = state;
-    let verdict = soundness::checked(after);
+    let verdict = soundness::checked_as(after, false);
     let number = deciding::describe_refusal(
         verdict.sound,
         after,
@@ -174,7 +174,7 @@ pub fn end(state: State) -> EndOutcome
     ensures { λ r. ⌜ Ends state r ⌝ }
 {
     let mut after = state;
-    let verdict = soundness::checked(after);
+    let verdict = soundness::checked_as(after, false);
     let number = deciding::end_refusal(verdict.sound, after);
     if number != 0 {
         let refusal = Refusal::of_number(number);
@@ -218,7 +218,7 @@ pub fn log_step(
     ensures { λ r. ⌜ LogSteps state (now (log .entry)) (now (home .entry)) (now (frames .entry)) (now (staging .entry)) r (now (log .exit)) (now (frames .exit)) ⌝ }
 {
     let mut after = state;
-    let verdict = soundness::checked(after);
+    let verdict = soundness::checked_as(after, false);
     let sums = verdict.sums;
     let number = logging::log_refusal(
         verdict.sound,
@@ -284,7 +284,7 @@ pub fn clean_step(state: State, log: &mut [u8], home: &mut [u8], frames: &[u8]) 
     ensures { λ r. ⌜ CleanSteps state (now (log .entry)) (now (home .entry)) (now (frames .entry)) r (now (log .exit)) (now (home .exit)) ⌝ }
 {
     let mut after = state;
-    let verdict = soundness::checked(after);
+    let verdict = soundness::checked_as(after, false);
     let number = cleaning::clean_refusal(verdict, after, log.len(), home.len(), frames.len());
     let mut cleaning = after.cleaning;
     if number == 0 {
@@ -318,10 +318,11 @@ pub fn clean_step(state: State, log: &mut [u8], home: &mut [u8], frames: &[u8]) 
 
 // Read: the 1,024 committed bytes of a page, as a part of `home` or of `frames`: nothing is copied.
 //
-// What is open or queued does not show. `refusal` is set by every call: to 0, or to the refusal's number.
+// What is open or queued does not show. `refusal` is set by every call: to 0, or to the refusal's number. A copy's state is taken too, with the
+// copy's home and frames.
 //
-// Refused, tested in this order: 2 the state is not sound; 1 an area has another length than at Open; 3 `page` is not below P. The part is then
-// empty, at the start of `home`.
+// Refused, tested in this order: 2 the state is sound neither as a desk's nor as a copy's; 1 an area has another length than at Open; 3 `page`
+// is not below P. The part is then empty, at the start of `home`.
 //
 // Promise: promises/specs/Read.antt.
 pub fn read<'a>(
@@ -333,7 +334,7 @@ pub fn read<'a>(
 ) -> &'a [u8]
     ensures { λ r. ⌜ Reads state (home .entry) (frames .entry) page (now (refusal .exit)) r ⌝ }
 {
-    let verdict = soundness::checked(state);
+    let verdict = soundness::checked_as(state, state.copy);
     let number = deciding::read_refusal(verdict.sound, state, home.len(), frames.len(), page);
     *refusal = number;
     if number != 0 {
@@ -348,16 +349,17 @@ pub fn read<'a>(
     &home[start..start + Block::PAGE]
 }
 
-// Settled: whether a ticket is committed. Once it is, it stays so over every power cut.
+// Settled: whether a ticket is committed. Once it is, it stays so over every power cut. A copy's state is taken too: whether the commit is in
+// the copy's log.
 //
-// Refused, tested in this order: 2 the state is not sound; 3 `ticket` is 0 or above the last ended one.
+// Refused, tested in this order: 2 the state is sound neither as a desk's nor as a copy's; 3 `ticket` is 0 or above the last ended one.
 //
 // Promise: promises/specs/Settled.antt.
 pub fn settled(state: State, ticket: u64) -> Standing
     ensures { λ r. ⌜ Settles state ticket r ⌝ }
 {
-    let verdict = soundness::checked(state);
-    let number = deciding::settled_refusal(verdict.sound, state, ticket);
+    let judged = soundness::checked_as(state, state.copy);
+    let number = deciding::settled_refusal(judged.sound, state, ticket);
     if number != 0 {
         let refusal = Refusal::of_number(number);
         return Standing::Refused(refusal);

@@ -16,8 +16,8 @@ use Rattle.promises.specs.Updates.{Update}
 use Rattle.promises.specs.DirtyPages.{DirtyPage, absent, at, lookUp, apply, without, keepFromOf}
 use Rattle.promises.specs.Contents.{unless, dirtyFrom, dirtyOf}
 use Rattle.promises.specs.Sums.{firstGroups, smallest}
-use Rattle.promises.specs.Sound.{distinct, allBelow, dirtyNumbers, sound}
-use Rattle.promises.proofs.Soundness.{Sound, sound-of}
+use Rattle.promises.specs.Sound.{soundAs, distinct, allBelow, dirtyNumbers, sound}
+use Rattle.promises.proofs.Soundness.{SoundAs, sound-as-of}
 use Rattle.promises.proofs.SoundFacts.{length-dirty, keepFrom-dirty, distinct-dirty}
 use Rattle.promises.proofs.History.WalkStart.{Distinct, lookUp-head}
 use Rattle.table.specs.declared.Table.{Table}
@@ -66,15 +66,18 @@ empty-holds count frames =
 abbrev pub tableOf : State → Table
 tableOf state = record { count = state .frames; full = false; dirty = state .dirty }
 
-pub sound-holds : (state : State) (frames : List ℕ) → sound state ≡ true → Holds (tableOf state) frames (dirtyOf state frames)
-sound-holds state frames h =
-    let f : Sound state = sound-of state h in
+pub sound-holds-as : (copy : Bool) (state : State) (frames : List ℕ) → soundAs copy state ≡ true → Holds (tableOf state) frames (dirtyOf state frames)
+sound-holds-as copy state frames h =
+    let f : SoundAs copy state = sound-as-of copy state h in
     record {
       looks = λ p. refl;
       tableDistinct = f .distinctPages;
       entriesDistinct = of-distinct (dirtyOf state frames) (distinct-dirty frames 0 (state .dirty) (f .distinctPages));
       within = f .framesBelow;
     }
+
+pub sound-holds : (state : State) (frames : List ℕ) → sound state ≡ true → Holds (tableOf state) frames (dirtyOf state frames)
+sound-holds state frames h = sound-holds-as false state frames h
 
 -- ---- every entry has a page and a first group of some kind
 

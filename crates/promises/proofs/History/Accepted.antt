@@ -82,7 +82,7 @@ commit-sees : (home : ℕ → List ℕ) (p j n : ℕ) (v : Walk) (t : View) → 
 unfolding walkBlock
 commit-sees home p j n v t m = tells-step home p j (commit n) v t m .sees
 
-ok-block : (F k P j m : ℕ) (home : ℕ → List ℕ) (b : Kind) (t : ℕ) (v : Walk) (ts ss : Views) → Beside k P m home v ts ss → Right F P j m ts b t → blockStands F home b t v ≡ true
+pub ok-block : (F k P j m : ℕ) (home : ℕ → List ℕ) (b : Kind) (t : ℕ) (v : Walk) (ts ss : Views) → Beside k P m home v ts ss → Right F P j m ts b t → blockStands F home b t v ≡ true
 unfolding blockStands
 ok-block F k P j m home (update i u) t v ts ss d r =
     let pl : length (v .group) ≡ length (ts 0 .group) = ap length (d .tells 0 .group ∙ sym (d .sim 0 .group)) in

@@ -89,7 +89,7 @@ pub record Inv (w : World) (b : Book) : Type 0 where
   pub lives : Lives w b (w .live)
 
 -- ---- First, carried along
-first-good : {history : List LogBlock} {m : ℕ} {h : List ℕ} {x : Found} {c : Page} → Sees h x c → First history m c → Good history m x
+pub first-good : {history : List LogBlock} {m : ℕ} {h : List ℕ} {x : Found} {c : Page} → Sees h x c → First history m c → Good history m x
 first-good clear f = tt
 first-good (held q) (some g) = g
 
@@ -111,7 +111,7 @@ page-update p j i u t = by-eq i 1 (λ e. simp (eq-eqb _ _ e)) (λ n. simp (ne-eq
 view-update : (history : List LogBlock) (b : LogBlock) (i : ℕ) (u : Update) (p : ℕ) → b .kind ≡ update i u → view (history ++ (b ∷ [])) p .page ≡ view history p .page
 view-update history b i u p e = ap (λ (t : View). t .page) (view-snoc history b p) ∙ ap (λ (k : Kind). viewBlock p (length history + 1) k (view history p) .page) e ∙ page-update p _ i u _
 
-disk-update : (history : List LogBlock) (home pages : ℕ → List ℕ) (m k t i : ℕ) (u : Update) → Disk history home pages m → ((p : ℕ) → AtLeast k (view history p .page))
+pub disk-update : (history : List LogBlock) (home pages : ℕ → List ℕ) (m k t i : ℕ) (u : Update) → Disk history home pages m → ((p : ℕ) → AtLeast k (view history p .page))
     → BeginsAt (history ++ (record { kind = update i u; keepFrom = k; ticket = t } ∷ [])) m k
     → Disk (history ++ (record { kind = update i u; keepFrom = k; ticket = t } ∷ [])) home pages m
 disk-update history home pages m k t i u d a g =
@@ -185,7 +185,7 @@ good-append history m b absent g = tt
 good-append history m b (at e) g = begins-append b g
 
 -- keep-from of the block that is being stored: d is where its own group begins, or itself
-keeps-append : (history : List LogBlock) (m d : ℕ) (b : LogBlock) (home : ℕ → List ℕ) (es : List DirtyPage) → Distinct es
+pub keeps-append : (history : List LogBlock) (m d : ℕ) (b : LogBlock) (home : ℕ → List ℕ) (es : List DirtyPage) → Distinct es
     → ((p : ℕ) → Good history m (lookUp p es))
     → BeginsAt (history ++ (b ∷ [])) (m + isCommit (b .kind)) d → BeginsAt (history ++ (b ∷ [])) (m + isCommit (b .kind)) (keepFromOf d es)
 keeps-append history m d b home es u s g = keepFrom-begins (history ++ (b ∷ [])) (m + isCommit (b .kind)) d es u (λ p. good-append history m b (lookUp p es) (s p)) g
@@ -264,7 +264,7 @@ view-commit : (history : List LogBlock) (k t n s : ℕ) (g : List Update) (p : �
 unfolding viewBlock
 view-commit history k t n s g p e f = ap (λ (t : View). t .page) (view-snoc history _ p) ∙ rw (e, f) refl
 
-disk-commit : (history : List LogBlock) (home pages : ℕ → List ℕ) (m k n s : ℕ) (g : List Update) → Disk history home pages m
+pub disk-commit : (history : List LogBlock) (home pages : ℕ → List ℕ) (m k n s : ℕ) (g : List Update) → Disk history home pages m
     → ((p : ℕ) → view history p .group ≡ g) → ((p : ℕ) → view history p .start ≡ s) → Legal 1024 g → BeginsAt history m s → k ≤ s
     → ((p : ℕ) → AtLeast k (view history p .page))
     → BeginsAt (history ++ (record { kind = commit n; keepFrom = k; ticket = m + 1 } ∷ [])) (m + 1) k
@@ -305,7 +305,7 @@ pub record Full (history : List LogBlock) (m n : ℕ) (g : List Update) : Type 0
   pub st : (p : ℕ) → view history p .start ≡ length history + 1 - n
   pub bg : BeginsAt history m (length history + 1 - n)
 
-full : (history : List LogBlock) (m n : ℕ) (g : List Update) (q r : List (List Update)) → q ≡ g ∷ r → 0 < length g → length g ≤ n → Half history m n q → Full history m n g
+pub full : (history : List LogBlock) (m n : ℕ) (g : List Update) (q r : List (List Update)) → q ≡ g ∷ r → 0 < length g → length g ≤ n → Half history m n q → Full history m n g
 full history m n g q r e z h (whole y) = absurd (omega arith)
 full history m n g q r e z h (part g′ r′ e′ y le pd st bg) =
     let s : g′ ≡ g = cc in

@@ -1,7 +1,7 @@
 -- What every block of a history obeys: it stands where it may, its keep-from is the one that the layout's rule gives, and it leaves room.
 -- The rule is said of the pages' views, not of anybody's list of dirty pages.
 use mathlib.Core.Path.{_≡_, sym, ap, _∙_, subst₂}
-use Prim.Native.Nat.{ℕ, _+_, _-_, _≤_, _<_}
+use Prim.Native.Nat.{ℕ, suc, _+_, _-_, _≤_, _<_}
 use native.Mathlib.Omega.{arith}
 use mathlib.Core.Bool.{cond}
 use mathlib.Core.List.{List, [], _∷_, _++_}
@@ -44,3 +44,13 @@ ruled-snoc N F P base history x r s i h l = by-eq i (length history)
     (λ n. let lt : i < length history = omega (arith, length-append history (x ∷ [])) in
     subst₂ (λ (xs : List LogBlock) (y : LogBlock). Rules N F P xs y)
     (sym (take-append-le i history (x ∷ []) (omega arith))) (sym (List·getD-append history (x ∷ []) noBlock i lt)) (r i lt l))
+
+-- the block after xs
+pub ruled-at : (N F P base : ℕ) (history xs : List LogBlock) (x : LogBlock) (ys : List LogBlock) → Ruled N F P base history → history ≡ xs ++ (x ∷ ys) → base ≤ length xs + 1
+    → Rules N F P xs x
+ruled-at N F P base history xs x ys r e l =
+    let ln : length history ≡ length xs + suc (length ys) = ap length e ∙ length-append xs (x ∷ ys) in
+    subst₂ (λ (zs : List LogBlock) (y : LogBlock). Rules N F P zs y)
+    (ap (take (length xs)) e ∙ take-append-seam xs (x ∷ ys))
+    (ap (λ (zs : List LogBlock). getD zs (length xs) noBlock) e ∙ getD-append-seam xs x ys noBlock)
+    (r (length xs) (omega arith) l)

@@ -50,7 +50,7 @@ sim-step {k} p j (update i u) t s m = go (eqb i 1)
 sim-step {k} p j (commit n) t s m = record { group = refl; start = refl; page = rw (m .group, m .start) (same-committed (s .start) (ofPage p (s .group)) (m .page)) }
 sim-step p j (clean q) t s m = record { group = refl; start = refl; page = same-cond (eqb p q) (m .page) }
 
-sim-track : {k : ℕ} (p j : ℕ) (bs : List LogBlock) (t s : View) → Sim k t s → Sim k (viewFrom p j bs t) (viewFrom p j bs s)
+pub sim-track : {k : ℕ} (p j : ℕ) (bs : List LogBlock) (t s : View) → Sim k t s → Sim k (viewFrom p j bs t) (viewFrom p j bs s)
 unfolding viewFrom
 sim-track p j [] t s m = m
 sim-track p j (b ∷ bs) t s m = sim-track p (suc j) bs (viewBlock p j (b .kind) t) (viewBlock p j (b .kind) s) (sim-step p j (b .kind) t s m)

@@ -12,8 +12,8 @@ use Rattle.recovery.proofs.last_test.Tie as tie
 returns : tie.Need-returns
 returns c = tested-not ((c .before .before .before) .args .slots) ((c .before .before .before) .args .last) (walkOf ((c .before .before .before) .args .stage) ((c .before .before .before) .args .seats .now)) (c .if1 .taken)
 
-add-span-fits : tie.Need-add-span-fits
-add-span-fits c = search needs
+add-next : tie.Need-add-next
+add-next c = search needs
 
 span-fits-requires : tie.Need-span-fits-requires
 span-fits-requires c κs = search needs
@@ -36,4 +36,4 @@ returns-3 c =
 pub last-test-spec : {M : Type 1} → statement M
 last-test-spec =
     tie.close
-    (tie.spec returns add-span-fits span-fits-requires refused-requires returns-2 returns-3)
+    (tie.spec returns add-next span-fits-requires refused-requires returns-2 returns-3)

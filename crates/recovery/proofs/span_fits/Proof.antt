@@ -25,7 +25,7 @@ returns : tie.Need-returns
 returns c =
     let a = (c .before .before .before) .args in
     ap (λ (k : ℕ). leb (a .next - k + c .dirty-pages .result) (a .slots)) ((c .before) .oldest .ensures .0)
-    ∙ ap (λ (d : ℕ). leb (a .next - smallest (a .next) (firstGroups (dirtyIn (a .seats .now))) + d) (a .slots)) (c .dirty-pages .ensures .0)
+    ∙ ap (λ (d : ℕ). leb (a .next - smallest (a .own) (firstGroups (dirtyIn (a .seats .now))) + d) (a .slots)) (c .dirty-pages .ensures .0)
 
 pub span-fits-spec : {M : Type 1} → statement M
 span-fits-spec =

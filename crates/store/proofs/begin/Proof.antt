@@ -6,11 +6,11 @@ use borrow.Author.Needs.{needs}
 use Rattle.store.proofs.begin.Statement.{statement}
 use Rattle.store.proofs.begin.Tie as tie
 
-checked-requires : tie.Need-checked-requires
-checked-requires c κs = search needs
+checked-as-requires : tie.Need-checked-as-requires
+checked-as-requires c κs = search needs
 
 begin-refusal-requires : tie.Need-begin-refusal-requires
-begin-refusal-requires c κs = c .checked .ensures
+begin-refusal-requires c κs = c .checked-as .ensures
 
 of-number-requires : tie.Need-of-number-requires
 of-number-requires c κs = search needs
@@ -23,4 +23,4 @@ returns c =
 
 pub begin-spec : {M : Type 1} → statement M
 begin-spec =
-    tie.close (tie.spec checked-requires begin-refusal-requires of-number-requires returns)
+    tie.close (tie.spec checked-as-requires begin-refusal-requires of-number-requires returns)

@@ -40,16 +40,16 @@ few-at c = omega (arith, c .frame-to-clean .ensures .0 .below, sound-of _ (passe
 with-by : (s t : State) (x y : Cleaning) (r : State) → r ≡ setCleaning s x → s ≡ t → x ≡ y → r ≡ setCleaning t y
 with-by s t x y r e f g = e ∙ ap (λ (u : State). setCleaning u x) f ∙ ap (setCleaning t) g
 
-checked-requires : tie.Need-checked-requires
-checked-requires c κs = search needs
+checked-as-requires : tie.Need-checked-as-requires
+checked-as-requires c κs = search needs
 
 clean-refusal-requires : tie.Need-clean-refusal-requires
-clean-refusal-requires c κs = c .checked .ensures
+clean-refusal-requires c κs = c .checked-as .ensures
 
 frame-to-clean-requires : tie.Need-frame-to-clean-requires
 frame-to-clean-requires c κs =
     let ok = passed-at (c .before .before) ((c .before) .if1 .taken) in
-    (ok .isSound, ok .some, (c .before .before .before) .checked .ensures .1 (ok .isSound) .0 .dirty)
+    (ok .isSound, ok .some, (c .before .before .before) .checked-as .ensures .1 (ok .isSound) .0 .dirty)
 
 stores-made-requires : tie.Need-stores-made-requires
 stores-made-requires c κs = search needs
@@ -59,7 +59,7 @@ store-clean-requires c κs =
     let a = (c .before .before .before .before .before .before .before .before .before .before .before .before) .args in
     let fresh = (c .before .before .before .before .before .before .before .before .before .before .before .before) in
     let ready = third-ready (a .state) (a .log .now) (a .home .now) (a .frames .now) (none-at (c .before .before .before .before .before .before .before) ((c .before .before .before .before .before .before) .if1 .taken)) _ ((c .before .before .before .before) .frame-to-clean .ensures .0) (dirty-long fresh) (sym ((c .before .before) .stores-made .ensures) ∙ (c .before) .if2 .taken) in
-    (ready .0, ready .1, ready .2, ready .3, (c .before .before .before .before) .frame-to-clean .ensures .1, (c .before .before .before .before .before .before .before .before) .checked .ensures .1 (passed-at (c .before .before .before .before .before .before .before) ((c .before .before .before .before .before .before) .if1 .taken) .isSound) .0 .dirty)
+    (ready .0, ready .1, ready .2, ready .3, (c .before .before .before .before) .frame-to-clean .ensures .1, (c .before .before .before .before .before .before .before .before) .checked-as .ensures .1 (passed-at (c .before .before .before .before .before .before .before) ((c .before .before .before .before .before .before) .if1 .taken) .isSound) .0 .dirty)
 
 mul-dirty : tie.Need-mul-dirty
 mul-dirty c = let h = few-at (c .before .before .before .before .before .before .before .before) in omega arith
@@ -117,7 +117,7 @@ pub clean-step-spec : {M : Type 1} → statement M
 clean-step-spec =
     tie.close
     (tie.spec
-    checked-requires
+    checked-as-requires
     clean-refusal-requires
     frame-to-clean-requires
     stores-made-requires

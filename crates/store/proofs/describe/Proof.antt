@@ -35,14 +35,14 @@ module _ (c : tie.After-describe-refusal) (z : c .describe-refusal .result ≡ 0
   describable-at : Describable (start .args .state) (length (now (start .args .staging))) (start .args .page) (start .args .offset) (length (now (start .args .bytes)))
   describable-at = describable _ _ _ _ _ (groups-long start) accepted-at
 
-  queued-at : (c .before) .checked .result .sums .queued ≡ total (groupsOf (start .args .state))
-  queued-at = (c .before) .checked .ensures .1 (describable-at .sounds) .0 .queued
+  queued-at : (c .before) .checked-as .result .sums .queued ≡ total (groupsOf (start .args .state))
+  queued-at = (c .before) .checked-as .ensures .1 (describable-at .sounds) .0 .queued
 
-checked-requires : tie.Need-checked-requires
-checked-requires c κs = search needs
+checked-as-requires : tie.Need-checked-as-requires
+checked-as-requires c κs = search needs
 
 describe-refusal-requires : tie.Need-describe-refusal-requires
-describe-refusal-requires c κs = c .checked .ensures .0
+describe-refusal-requires c κs = c .checked-as .ensures .0
 
 add-count : tie.Need-add-count
 add-count c = let k = describable-at (c .before .before .before .before) ((c .before .before .before) .if1 .taken) in omega (arith, queued-at (c .before .before .before .before) ((c .before .before .before) .if1 .taken))
@@ -92,7 +92,7 @@ returns c =
     (⊎-elim
     (λ w. inl (
       w .0 .taken,
-      let counted : (c .before .before .before) .checked .result .sums .queued + a .state .described ≡ total (groupsOf (a .state)) + a .state .described =
+      let counted : (c .before .before .before) .checked-as .result .sums .queued + a .state .described ≡ total (groupsOf (a .state)) + a .state .described =
           ap (λ (n : ℕ). n + a .state .described) (queued-at at (w .0 .taken)) in
           let unheld = ap (λ (n : ℕ). member (w .5 .result) (areasOf (take n (a .state .staged)))) (sym counted) ∙ w .5 .ensures .1 in
           describe-done (a .state) _ _ (a .page) (a .offset) (w .5 .result) (w .6 .result) _ (now (a .bytes)) (now (a .staging)) _ (staged-long fresh) (accepted-at at (w .0 .taken))
@@ -105,7 +105,7 @@ pub describe-spec : {M : Type 1} → statement M
 describe-spec =
     tie.close
     (tie.spec
-    checked-requires
+    checked-as-requires
     describe-refusal-requires
     add-count
     free-area-requires

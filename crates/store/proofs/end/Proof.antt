@@ -12,11 +12,11 @@ use Rattle.store.proofs.end.Tie as tie
 long-at : (c : tie.Start) → length (c .args .state .groups) ≡ 32
 long-at c = search needs
 
-checked-requires : tie.Need-checked-requires
-checked-requires c κs = search needs
+checked-as-requires : tie.Need-checked-as-requires
+checked-as-requires c κs = search needs
 
 end-refusal-requires : tie.Need-end-refusal-requires
-end-refusal-requires c κs = c .checked .ensures .0
+end-refusal-requires c κs = c .checked-as .ensures .0
 
 of-number-requires : tie.Need-of-number-requires
 of-number-requires c κs = search needs
@@ -57,7 +57,7 @@ pub end-spec : {M : Type 1} → statement M
 end-spec =
     tie.close
     (tie.spec
-    checked-requires
+    checked-as-requires
     end-refusal-requires
     of-number-requires
     returns

@@ -29,9 +29,9 @@ module _ (c : tie.Else1) where
   ready-at : Ready (start .args .state) (length (start .args .log .now)) (length (start .args .home .now)) (length (start .args .frames .now)) (length (start .args .staging .now))
   ready-at = ready (start .args .state) _ _ _ _ none-at
 
-  sums-at : Summed (start .args .state) ((c .before .before .before) .checked .result .sums)
+  sums-at : Summed (start .args .state) ((c .before .before .before) .checked-as .result .sums)
   sums-at =
-      (c .before .before .before) .checked .ensures .1
+      (c .before .before .before) .checked-as .ensures .1
       (accepted (start .args .state) (length (start .args .log .now)) (length (start .args .home .now)) (length (start .args .frames .now)) (length (start .args .staging .now)) none-at .isSound)
       .0
 
@@ -39,11 +39,11 @@ module _ (c : tie.Else1) where
 size-at : (c : tie.After-group-size) → c .group-size .result ≤ 16
 size-at c = let r = ready-at (c .before .before .before) .size in omega (arith, c .group-size .ensures)
 
-checked-requires : tie.Need-checked-requires
-checked-requires c κs = search needs
+checked-as-requires : tie.Need-checked-as-requires
+checked-as-requires c κs = search needs
 
 log-refusal-requires : tie.Need-log-refusal-requires
-log-refusal-requires c κs = (c .before) .checked .ensures .0
+log-refusal-requires c κs = (c .before) .checked-as .ensures .0
 
 of-number-requires : tie.Need-of-number-requires
 of-number-requires c κs = search needs
@@ -117,7 +117,7 @@ pub log-step-spec : {M : Type 1} → statement M
 log-step-spec =
     tie.close
     (tie.spec
-    checked-requires
+    checked-as-requires
     log-refusal-requires
     of-number-requires
     returns

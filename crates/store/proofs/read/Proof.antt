@@ -1,7 +1,7 @@
 -- `read` meets its contract: the part of the area where the page is held.
 -- Assumes nothing.
 use mathlib.Core.Path.{refl, sym, _∙_}
-use Rattle.queueing.proofs.Refusals.{Readable, readable}
+use Rattle.queueing.proofs.Refusals.{Readable, read-passed}
 use Rattle.queueing.proofs.Places.{read-refused, read-frame, read-home}
 use lib.ListN.{length}
 use denote.Ref.{now}
@@ -12,13 +12,13 @@ use Rattle.store.proofs.read.Tie as tie
 
 readable-at : (c : tie.Else1)
     → let args = (c .before .before .before .before .before) .args in Readable (args .state) (length (now (args .home))) (length (now (args .frames))) (args .page)
-readable-at c = readable _ _ _ _ (sym ((c .before) .read-refusal .ensures .0) ∙ c .if1 .left)
+readable-at c = read-passed _ _ _ _ (sym ((c .before) .read-refusal .ensures .0) ∙ c .if1 .left)
 
-checked-requires : tie.Need-checked-requires
-checked-requires c κs = search needs
+checked-as-requires : tie.Need-checked-as-requires
+checked-as-requires c κs = search needs
 
 read-refusal-requires : tie.Need-read-refusal-requires
-read-refusal-requires c κs = c .checked .ensures .0
+read-refusal-requires c κs = c .checked-as .ensures .0
 
 slice-aggregate-result : tie.Need-slice-aggregate-result
 slice-aggregate-result c = search needs
@@ -82,7 +82,7 @@ pub read-spec : {M : Type 1} → statement M
 read-spec =
     tie.close
     (tie.spec
-    checked-requires
+    checked-as-requires
     read-refusal-requires
     slice-aggregate-result
     returns

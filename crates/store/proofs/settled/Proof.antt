@@ -9,11 +9,11 @@ use borrow.Author.Needs.{needs}
 use Rattle.store.proofs.settled.Statement.{statement}
 use Rattle.store.proofs.settled.Tie as tie
 
-checked-requires : tie.Need-checked-requires
-checked-requires c κs = search needs
+checked-as-requires : tie.Need-checked-as-requires
+checked-as-requires c κs = search needs
 
 settled-refusal-requires : tie.Need-settled-refusal-requires
-settled-refusal-requires c κs = c .checked .ensures .0
+settled-refusal-requires c κs = c .checked-as .ensures .0
 
 of-number-requires : tie.Need-of-number-requires
 of-number-requires c κs = search needs
@@ -37,7 +37,7 @@ pub settled-spec : {M : Type 1} → statement M
 settled-spec =
     tie.close
     (tie.spec
-    checked-requires
+    checked-as-requires
     settled-refusal-requires
     of-number-requires
     returns

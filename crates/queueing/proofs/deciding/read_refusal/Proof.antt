@@ -6,7 +6,7 @@ use Prim.Native.Nat.{_*_}
 use lib.Dec.{eqb}
 use borrow.Author.Tests.{not-true, not-false, lt-ltb, le-ltb}
 use Rattle.promises.specs.Read.{readRefusal}
-use Rattle.promises.proofs.Soundness.{sound-of}
+use Rattle.promises.proofs.Soundness.{sound-as-of}
 use native.Mathlib.Omega.{arith}
 use Rattle.queueing.proofs.deciding.read_refusal.Statement.{statement}
 use Rattle.queueing.proofs.deciding.read_refusal.Tie as tie
@@ -16,10 +16,10 @@ unfolding readRefusal
 returns c = (simp (sym ((c .before) .pre) ∙ not-true _ (c .if1 .taken)), omega arith)
 
 mul-right : tie.Need-mul-right
-mul-right c = omega (arith, sound-of ((c .before .before) .args .state) (sym ((c .before .before) .pre) ∙ not-false _ ((c .before) .if1 .left)) .pages)
+mul-right c = omega (arith, sound-as-of _ ((c .before .before) .args .state) (sym ((c .before .before) .pre) ∙ not-false _ ((c .before) .if1 .left)) .pages)
 
 mul-right-2 : tie.Need-mul-right-2
-mul-right-2 c = omega (arith, sound-of ((c .before .before .before) .args .state) (sym ((c .before .before .before) .pre) ∙ not-false _ ((c .before .before) .if1 .left)) .frames)
+mul-right-2 c = omega (arith, sound-as-of _ ((c .before .before .before) .args .state) (sym ((c .before .before .before) .pre) ∙ not-false _ ((c .before .before) .if1 .left)) .frames)
 
 returns-2 : tie.Need-returns-2
 unfolding readRefusal

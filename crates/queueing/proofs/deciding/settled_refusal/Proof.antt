@@ -18,7 +18,7 @@ unfolding settledRefusal
 returns c = (simp (sym ((c .before) .pre) ∙ not-true _ (c .if1 .taken)), omega arith)
 
 add-last : tie.Need-add-last
-add-last c = omega (arith, tickets-fit ((c .before .before) .args .state) (long-at ((c .before .before))) (sym ((c .before .before) .pre) ∙ not-false _ ((c .before) .if1 .left)))
+add-last c = omega (arith, tickets-fit _ ((c .before .before) .args .state) (long-at ((c .before .before))) (sym ((c .before .before) .pre) ∙ not-false _ ((c .before) .if1 .left)))
 
 returns-2 : tie.Need-returns-2
 unfolding settledRefusal

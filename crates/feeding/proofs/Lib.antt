@@ -1,0 +1,5 @@
+pub mod Testing
+pub mod OwnLog
+pub mod Turning
+pub mod Committing
+pub mod Deciding
