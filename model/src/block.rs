@@ -130,7 +130,7 @@ pub fn encode(block: &Block) -> [u8; BLOCK_SIZE] {
 
 /// Reads a block of a log of `slots` slots over a home of `pages` pages.
 /// It is None where a rule of the layout is broken; the slot's own place is not looked at.
-fn decode(bytes: &[u8], slots: u64, pages: u64) -> Option<Block> {
+pub fn decode(bytes: &[u8], slots: u64, pages: u64) -> Option<Block> {
     let sequence = get_number(bytes, 0, 8);
     let keep_from = get_number(bytes, 8, 8);
     let kind = bytes[16];

@@ -37,6 +37,10 @@ impl Book {
         self.committed
     }
 
+    pub fn pages(&self) -> &[Vec<u8>] {
+        &self.pages
+    }
+
     pub fn page(&self, page: u64) -> &[u8] {
         &self.pages[page as usize]
     }

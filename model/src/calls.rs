@@ -21,6 +21,8 @@ pub enum Refusal {
     TooFewFrames = 9,
     NothingToDo = 10,
     HeldBack = 11,
+    BadBlock = 13,
+    SequenceAhead = 14,
 }
 
 impl Refusal {
@@ -62,7 +64,7 @@ pub fn whole_count(length: usize, size: usize, least: u64, most: u64) -> Option<
     }
 }
 
-fn has_length(area: &[u8], count: u64, size: usize) -> bool {
+pub fn has_length(area: &[u8], count: u64, size: usize) -> bool {
     area.len() as u64 == count * size as u64
 }
 
@@ -345,7 +347,7 @@ pub fn read<'a>(
     frames: &'a [u8],
     page: u64,
 ) -> Result<&'a [u8], Refusal> {
-    if !state.is_sound() {
+    if !state.is_readable() {
         return Err(Refusal::NotSound);
     }
     if !has_length(home, state.pages, PAGE_SIZE) || !has_length(frames, state.frames, PAGE_SIZE) {
@@ -362,7 +364,7 @@ pub fn read<'a>(
 
 /// Whether the ticket is committed.
 pub fn settled(state: &State, ticket: u64) -> Result<bool, Refusal> {
-    if !state.is_sound() {
+    if !state.is_readable() {
         return Err(Refusal::NotSound);
     }
     if ticket == 0 || ticket > state.ended {

@@ -2,6 +2,7 @@
 //! request b of 02 and the damaged logs of its request f.
 
 use crate::block::{encode, Block, Kind, BLOCK_SIZE};
+use crate::copy_cases;
 
 fn update(sequence: u64, keep_from: u64, ticket: u64, page: u64, new_bytes: &[u8]) -> Block {
     Block {
@@ -177,8 +178,18 @@ fn waits() -> Vec<String> {
 
 /// Cases 5 to 13 in the script language, 8 slots, 4 pages and 2 frames unless said there; then three
 /// desks of request b, whose last lines are the same; then the damaged logs of request f, and the Begins
-/// of request k that wait.
+/// of request k that wait; last the copies of request l.
 pub fn script() -> String {
+    let mut text = String::new();
+    for line in desk_lines().into_iter().chain(copy_cases::lines()) {
+        text += &line;
+        text.push('\n');
+    }
+    text
+}
+
+/// The lines before those of request l.
+fn desk_lines() -> Vec<String> {
     let mut lines: Vec<String> = Vec::new();
     let all = u64::MAX;
 
@@ -261,13 +272,7 @@ pub fn script() -> String {
 
     lines.extend(damaged_ends());
     lines.extend(waits());
-
-    let mut text = String::new();
-    for line in lines {
-        text += &line;
-        text.push('\n');
-    }
-    text
+    lines
 }
 
 #[cfg(test)]
@@ -507,10 +512,11 @@ mod tests {
         assert_eq!(found.state.dirty[0].first_group, 2);
     }
 
-    /// The lines that the script of the cases must print, as far as 01 has them.
+    /// The lines that the script of the cases must print, as far as 01 has them. Those of request l are
+    /// in copy_cases.rs.
     #[test]
     fn script_of_the_cases() {
-        let script = script();
+        let script = desk_lines().join("\n") + "\n";
         let output = Runner::new(FreeChoice::Lowest).run_script(script.as_bytes());
         let pairs: Vec<(&str, &str)> = script.lines().zip(output.lines()).collect();
         assert_eq!(script.lines().count(), output.lines().count());

@@ -4,6 +4,10 @@ mod block;
 mod book;
 mod calls;
 mod cases;
+mod copies;
+mod copy_cases;
+mod copy_script;
+mod copy_watch;
 mod coverage;
 #[cfg(test)]
 mod listings;
@@ -22,7 +26,7 @@ const USAGE: &str = "\
 model run < SCRIPT          print the lines that must come out
 model make SEED             print a random script
 model coverage COUNT SEED   make COUNT scripts from SEED on, and say what they covered
-model cases                 print the script of the worked cases 5 to 13 and of requests b, f and k
+model cases                 print the script of the worked cases 5 to 13 and of requests b, f, k and l
 model image < SCRIPT        run a script and write the log it leaves, byte for byte
 model logshow < LOG         print what the program logshow must print for a log
 ";

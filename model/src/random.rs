@@ -9,6 +9,8 @@ use crate::calls::{area_range, FreeChoice};
 use crate::script::{Runner, Store};
 use crate::state::State;
 
+mod feeding;
+
 /// A small deterministic generator of numbers (splitmix64).
 pub struct Random {
     state: u64,
@@ -102,9 +104,14 @@ const ODD_NUMBERS: [u64; 16] = [
 
 struct Maker {
     random: Random,
+    /// The generator of the lines of request l.
+    side: Random,
+    manner: feeding::Manner,
     runner: Runner,
     lines: Vec<String>,
     answers: Vec<String>,
+    /// How many of the lines are the desk's.
+    desk_lines: usize,
     /// How much damage, wrong lengths and the like the script has, from 1 to 3.
     trouble: u64,
 }
@@ -127,12 +134,33 @@ impl MadeScript {
     }
 }
 
+/// The block with one byte changed and its check made right again.
+fn with_changed_byte(random: &mut Random, block: &[u8]) -> Vec<u8> {
+    let mut bytes = block.to_vec();
+    let place = match random.below(10) {
+        0..=6 => random.from_to(16, 35),
+        7 => random.below(16),
+        _ => random.from_to(36, 507),
+    } as usize;
+    bytes[place] = match random.below(3) {
+        0 => bytes[place].wrapping_add(1),
+        1 => bytes[place].wrapping_sub(1),
+        _ => random.below(256) as u8,
+    };
+    set_check(&mut bytes);
+    bytes
+}
+
 pub fn make(seed: u64) -> MadeScript {
+    let (side, manner) = feeding::side_of(seed);
     let mut maker = Maker {
         random: Random::new(seed),
+        side,
+        manner,
         runner: Runner::new(FreeChoice::Lowest),
         lines: Vec::new(),
         answers: Vec::new(),
+        desk_lines: 0,
         trouble: 1,
     };
     maker.script();
@@ -144,7 +172,17 @@ pub fn make(seed: u64) -> MadeScript {
 }
 
 impl Maker {
+    /// Says a line of the desk; lines of request l may follow it.
     fn say(&mut self, line: impl Into<String>) -> String {
+        let line = line.into();
+        let answer = self.tell(&line);
+        self.desk_lines += 1;
+        self.copy_turn(&line, &answer);
+        answer
+    }
+
+    /// Says a line, and no more.
+    fn tell(&mut self, line: impl Into<String>) -> String {
         let line = line.into();
         let answer = self.runner.run_line(line.as_bytes());
         self.lines.push(line);
@@ -197,19 +235,19 @@ impl Maker {
         let length = self.random.from_to(250, 550) as usize;
         match theme {
             Theme::ForgedLogs => {
-                while self.lines.len() < length {
+                while self.desk_lines < length {
                     self.forged_log();
                     self.say("o");
                     self.reads_of_all_pages();
-                    let end = self.lines.len() + self.random.from_to(5, 40) as usize;
-                    while self.lines.len() < end {
+                    let end = self.desk_lines + self.random.from_to(5, 40) as usize;
+                    while self.desk_lines < end {
                         self.action(theme);
                     }
                 }
             }
             _ => {
                 self.format_and_open();
-                while self.lines.len() < length {
+                while self.desk_lines < length {
                     if self.trouble == 3 && self.random.chance(1) {
                         self.areas(theme);
                         self.format_and_open();
@@ -221,6 +259,7 @@ impl Maker {
         self.say("g");
         self.say("o");
         self.reads_of_all_pages();
+        self.last_of_the_copy();
     }
 
     fn areas(&mut self, theme: Theme) {
@@ -738,23 +777,6 @@ impl Maker {
         }
     }
 
-    /// The block with one byte changed and its check made right again.
-    fn with_changed_byte(&mut self, block: &[u8]) -> Vec<u8> {
-        let mut bytes = block.to_vec();
-        let place = match self.random.below(10) {
-            0..=6 => self.random.from_to(16, 35),
-            7 => self.random.below(16),
-            _ => self.random.from_to(36, 507),
-        } as usize;
-        bytes[place] = match self.random.below(3) {
-            0 => bytes[place].wrapping_add(1),
-            1 => bytes[place].wrapping_sub(1),
-            _ => self.random.below(256) as u8,
-        };
-        set_check(&mut bytes);
-        bytes
-    }
-
     /// Puts another valid block in the place of a stored one, and opens the log.
     fn forge_block(&mut self) {
         let state = self.state();
@@ -769,7 +791,7 @@ impl Maker {
             return;
         };
         if self.random.chance(35) {
-            let forged = self.with_changed_byte(&old);
+            let forged = with_changed_byte(&mut self.random, &old);
             self.poke_slot(slot, &forged);
             self.say("o");
             if self.random.chance(50) {
@@ -934,7 +956,7 @@ impl Maker {
                     let place = self.random.below(BLOCK_SIZE as u64) as usize;
                     bytes[place] = bytes[place].wrapping_add(1);
                 }
-                1 => bytes = self.with_changed_byte(&bytes),
+                1 => bytes = with_changed_byte(&mut self.random, &bytes),
                 _ => (),
             }
             self.poke_slot(slot_of(block.sequence, slots), &bytes);

@@ -1,4 +1,4 @@
-//! Open: the state and the frames made from log and home.
+//! Open, and the opening of a copy: the state and the frames made from log and home.
 
 use std::collections::BTreeMap;
 
@@ -19,17 +19,19 @@ fn refused(refusal: Refusal, place: u64) -> RefusedOpening {
     RefusedOpening { refusal, place }
 }
 
-/// The sizes N, P and F, taken from the lengths.
-pub fn sizes(log: usize, home: usize, frames: usize, staging: usize) -> Option<(u64, u64, u64)> {
-    let slots = whole_count(log, BLOCK_SIZE, 8, 1024)?;
-    let pages = whole_count(home, PAGE_SIZE, 1, 4096)?;
-    let frame_count = whole_count(frames, PAGE_SIZE, 1, 32)?;
-    let area_count = whole_count(staging, MAX_UPDATE_LENGTH, 1, 32)?;
-    if frame_count == area_count {
-        Some((slots, pages, frame_count))
-    } else {
-        None
-    }
+/// The sizes N, P and F.
+type Sizes = (u64, u64, u64);
+
+/// The sizes, taken from the lengths.
+fn sizes(log: &[u8], home: &[u8], frames: &[u8]) -> Option<Sizes> {
+    let slots = whole_count(log.len(), BLOCK_SIZE, 8, 1024)?;
+    let pages = whole_count(home.len(), PAGE_SIZE, 1, 4096)?;
+    let frame_count = whole_count(frames.len(), PAGE_SIZE, 1, 32)?;
+    Some((slots, pages, frame_count))
+}
+
+fn refused_for_a_length() -> (State, Result<u64, RefusedOpening>) {
+    (State::all_zero(), Err(refused(Refusal::WrongLength, 0)))
 }
 
 /// Gives the new state and the ticket that is reported as settled. A refused opening gives the
@@ -41,18 +43,45 @@ pub fn open(
     staging: &[u8],
     choice: FreeChoice,
 ) -> (State, Result<u64, RefusedOpening>) {
-    let Some((slots, pages, frame_count)) =
-        sizes(log.len(), home.len(), frames.len(), staging.len())
-    else {
-        return (State::all_zero(), Err(refused(Refusal::WrongLength, 0)));
+    let Some(sizes) = sizes(log, home, frames) else {
+        return refused_for_a_length();
     };
-    match recover(log, home, slots, pages, frame_count) {
+    if whole_count(staging.len(), MAX_UPDATE_LENGTH, 1, 32) != Some(sizes.2) {
+        return refused_for_a_length();
+    }
+    open_as(false, log, home, frames, sizes, choice)
+}
+
+/// The opening of a copy: no staging is lent, and a half group at the log's end is kept.
+pub fn open_copy(
+    log: &[u8],
+    home: &[u8],
+    frames: &mut [u8],
+    choice: FreeChoice,
+) -> (State, Result<u64, RefusedOpening>) {
+    match sizes(log, home, frames) {
+        Some(sizes) => open_as(true, log, home, frames, sizes, choice),
+        None => refused_for_a_length(),
+    }
+}
+
+fn open_as(
+    copy: bool,
+    log: &[u8],
+    home: &[u8],
+    frames: &mut [u8],
+    (slots, pages, frame_count): Sizes,
+    choice: FreeChoice,
+) -> (State, Result<u64, RefusedOpening>) {
+    match recover(copy, log, home, (slots, pages, frame_count)) {
         Err(refusal) => {
             frames.fill(0);
             (State::all_zero(), Err(refusal))
         }
         Ok(found) => {
             let mut state = State::all_zero();
+            state.copy = copy;
+            state.stored = found.stored;
             state.slots = slots;
             state.pages = pages;
             state.frames = frame_count;
@@ -82,6 +111,8 @@ struct RecoveredPage {
 struct Recovered {
     next: u64,
     committed: u64,
+    /// How many updates of a half group at the end are kept: none at a desk's opening.
+    stored: u64,
     dirty: BTreeMap<u64, RecoveredPage>,
 }
 
@@ -132,17 +163,17 @@ pub fn live_blocks(log: &[u8], slots: u64, pages: u64) -> Result<Vec<Block>, Ref
 }
 
 fn recover(
+    copy: bool,
     log: &[u8],
     home: &[u8],
-    slots: u64,
-    pages: u64,
-    frame_count: u64,
+    (slots, pages, frame_count): Sizes,
 ) -> Result<Recovered, RefusedOpening> {
     let blocks = live_blocks(log, slots, pages)?;
     let (Some(first), Some(newest)) = (blocks.first(), blocks.last()) else {
         return Ok(Recovered {
             next: 1,
             committed: 0,
+            stored: 0,
             dirty: BTreeMap::new(),
         });
     };
@@ -210,8 +241,14 @@ fn recover(
         }
     }
 
+    // The end voids a half group, but a copy's opening keeps it.
+    if !copy {
+        half = None;
+    }
     let next = newest.sequence + 1;
-    let held = match dirty.values().map(|page| page.first_group).min() {
+    let mut starts: Vec<u64> = dirty.values().map(|page| page.first_group).collect();
+    starts.extend(half.as_ref().map(|group| group.start));
+    let held = match starts.iter().min() {
         Some(oldest) => next - oldest,
         None => 0,
     };
@@ -221,6 +258,7 @@ fn recover(
     Ok(Recovered {
         next,
         committed,
+        stored: half.map_or(0, |group| group.updates.len() as u64),
         dirty,
     })
 }

@@ -3,6 +3,8 @@
 use crate::block::{read_slot, slot_of};
 use crate::block::{Slot, BLOCK_SIZE, MAX_UPDATE_LENGTH, PAGE_SIZE};
 use crate::calls::{self, area_range, FreeChoice, Refusal};
+use crate::copy_script::{self, CopyCommand, CopyCounts, CopyStore};
+use crate::copy_watch::{CopyWatch, Desk, DeskBlocks};
 use crate::recovery;
 use crate::state::{Cleaning, State};
 use crate::waiting;
@@ -42,6 +44,8 @@ pub enum Command {
     },
     Next(u64),
     Digests,
+    /// A line of request l.
+    OfCopy(CopyCommand),
 }
 
 /// Splits a line, without its newline, into its letter and its numbers.
@@ -102,7 +106,7 @@ pub fn parse(line: &[u8]) -> Option<Command> {
         (b'p', &[place, value]) => Command::Poke { place, value },
         (b't', &[next]) => Command::Next(next),
         (b'g', &[]) => Command::Digests,
-        _ => return None,
+        (_, numbers) => Command::OfCopy(copy_script::parse(letter, numbers)?),
     })
 }
 
@@ -180,6 +184,7 @@ pub struct Counts {
     pub waits: u64,
     pub waits_for_blocks: u64,
     pub longest_waits: u64,
+    pub copies: CopyCounts,
 }
 
 impl Counts {
@@ -205,6 +210,7 @@ impl Counts {
         self.waits += other.waits;
         self.waits_for_blocks += other.waits_for_blocks;
         self.longest_waits += other.longest_waits;
+        self.copies.add(&other.copies);
     }
 }
 
@@ -212,7 +218,13 @@ pub struct Runner {
     pub store: Option<Store>,
     pub watch: Option<Watch>,
     pub counts: Counts,
-    choice: FreeChoice,
+    pub choice: FreeChoice,
+    /// The desk's blocks, right as long as there is a watch.
+    pub desk_blocks: DeskBlocks,
+    pub copy: Option<CopyStore>,
+    pub copy_watch: Option<CopyWatch>,
+    /// The block held aside for a copy.
+    pub held: Vec<u8>,
 }
 
 /// Asserts that every refused call but Open changes nothing.
@@ -223,7 +235,7 @@ fn assert_unchanged(before: &Store, after: &Store) {
     );
 }
 
-fn refused_line(refusal: Refusal) -> String {
+pub fn refused_line(refusal: Refusal) -> String {
     format!("refused {}", refusal.number())
 }
 
@@ -234,6 +246,10 @@ impl Runner {
             watch: None,
             counts: Counts::default(),
             choice,
+            desk_blocks: DeskBlocks::default(),
+            copy: None,
+            copy_watch: None,
+            held: vec![0; BLOCK_SIZE],
         }
     }
 
@@ -278,6 +294,9 @@ impl Runner {
             }
             self.store = Some(Store::new(*slots, *pages, *frames));
             self.watch = None;
+            self.copy = None;
+            self.copy_watch = None;
+            self.held.fill(0);
             return Some("areas".to_string());
         }
         let mut store = self.store.take()?;
@@ -337,6 +356,7 @@ impl Runner {
                 Some(format!("log {log} home {home}"))
             }
             Command::Describe { length, .. } if *length > 512 => None,
+            Command::OfCopy(command) => self.run_on_copy(store, command),
             _ => {
                 self.counts.calls += 1;
                 let before = store.clone();
@@ -366,9 +386,46 @@ impl Runner {
                 if refused && *command != Command::Open {
                     assert_unchanged(&before, store);
                 }
+                if !refused {
+                    self.follow_the_desk(&before, store, command);
+                }
                 Some(answer)
             }
         }
+    }
+
+    /// Keeps the desk's blocks, and compares the copy with the desk after an accepted call of the desk.
+    fn follow_the_desk(&mut self, before: &Store, store: &Store, command: &Command) {
+        match command {
+            Command::Format => self.desk_blocks.formatted(),
+            Command::LogStep | Command::CleanStep if store.state.next != before.state.next => {
+                let slot = slot_of(before.state.next, before.state.slots);
+                let bytes = &store.log[area_range(slot, BLOCK_SIZE)];
+                self.desk_blocks.stored(before.state.next, bytes);
+            }
+            _ => (),
+        }
+        if matches!(
+            command,
+            Command::Open | Command::LogStep | Command::CleanStep
+        ) {
+            self.compare_copy_and_desk(store, false);
+        }
+    }
+
+    pub fn compare_copy_and_desk(&mut self, store: &Store, whole_way: bool) {
+        let (Some(copy), Some(copy_watch)) = (&self.copy, &self.copy_watch) else {
+            return;
+        };
+        let Some(watch) = &self.watch else {
+            return;
+        };
+        let desk = Desk {
+            store,
+            watch,
+            blocks: &self.desk_blocks,
+        };
+        copy_watch.compare_with_the_desk(copy, Some(&desk), whole_way, &mut self.counts.copies);
     }
 
     /// Makes one of the nine calls over what is lent, and keeps the book beside it.

@@ -39,6 +39,8 @@ pub enum Cleaning {
 
 #[derive(Clone, Debug, PartialEq, Eq)]
 pub struct State {
+    /// Whether this is the state of a brokers' copy (request l) and not of a desk.
+    pub copy: bool,
     /// N, the slots of the log.
     pub slots: u64,
     /// P, the pages of home.
@@ -54,7 +56,8 @@ pub struct State {
     pub dirty: Vec<DirtyPage>,
     /// Ended transactions whose commit is not stored, oldest first.
     pub queue: Vec<Vec<StagedUpdate>>,
-    /// How many updates of the oldest queued group are stored.
+    /// How many updates of the oldest queued group are stored; in a copy's state those of the half
+    /// group at the log's end.
     pub stored: u64,
     pub open: Option<OpenTransaction>,
     pub cleaning: Cleaning,
@@ -63,6 +66,7 @@ pub struct State {
 impl State {
     pub fn all_zero() -> State {
         State {
+            copy: false,
             slots: 0,
             pages: 0,
             frames: 0,
@@ -150,14 +154,36 @@ impl State {
         self.dirty.iter().find(|dirty| dirty.page == page)
     }
 
+    /// Whether this is a sound state of a desk. To the calls of a desk a copy's state is not.
     pub fn is_sound(&self) -> bool {
-        self.sizes_are_in_range()
+        !self.copy
+            && self.sizes_are_in_range()
             && self.dirty_pages_are_sound()
             && self.tickets_are_sound()
             && self.staged_updates_are_sound()
             && self.groups_are_sound()
             && self.cleaning_is_sound()
             && self.room_is_kept()
+    }
+
+    /// Whether this is a sound state of a copy. A half group needs no queued one: its start, and stored
+    /// updates that end at next - 1, are enough, however many; and nothing is open or queued.
+    pub fn is_sound_copy(&self) -> bool {
+        self.copy
+            && self.sizes_are_in_range()
+            && self.dirty_pages_are_sound()
+            && self.tickets_are_sound()
+            && self.queue.is_empty()
+            && self.open.is_none()
+            && self.cleaning_is_sound()
+            && self.held() + self.dirty_count() <= i128::from(self.slots)
+            && self.dirty_count() <= i128::from(self.frames)
+            && self.next <= SEQUENCE_LIMIT
+    }
+
+    /// Read and Settled are calls of a desk and of a copy.
+    pub fn is_readable(&self) -> bool {
+        self.is_sound() || self.is_sound_copy()
     }
 
     fn sizes_are_in_range(&self) -> bool {

@@ -38,6 +38,24 @@ impl Watch {
         }
     }
 
+    // What a copy of this desk is compared with.
+
+    pub fn book(&self) -> &Book {
+        &self.book
+    }
+
+    pub fn slots(&self) -> u64 {
+        self.slots
+    }
+
+    pub fn pages_and_frames(&self) -> Option<(u64, u64)> {
+        self.pages_and_frames
+    }
+
+    pub fn is_in_step(&self) -> bool {
+        self.in_step
+    }
+
     pub fn open(
         &mut self,
         store: &Store,
