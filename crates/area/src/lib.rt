@@ -7,7 +7,7 @@ pub fn copy(destination: &mut [u8], source: &[u8])
     requires { length destination.old ≡ length source.now }
     ensures { destination.new ≡ source.now }
 {
-    bytes::copy(source, destination);
+    destination.copy_from_slice(source);
 }
 
 // Sets every byte of area to zero.

@@ -12,14 +12,14 @@ ghost use Rattle.block.specs.Lanes.{lower_of, LanesMost, SumsMost, RowAdded, Sum
 const MODULUS: u32 = 65535;
 
 // A and B.
-#[derive(Drop)]
+#[derive(Clone, Copy)]
 pub struct Sums {
     pub a: u64,
     pub b: u64,
 }
 
 // A and B before their remainders.
-#[derive(Drop)]
+#[derive(Clone, Copy)]
 struct Running {
     a: u32,
     b: u32,
@@ -27,7 +27,7 @@ struct Running {
 
 // Sixteen lanes: the pairs of bytes and the upper bytes, summed over the rows; and what these sums were before each row, summed. The
 // pairs and their totals are modulo 65,536.
-#[derive(Drop)]
+#[derive(Clone, Copy)]
 struct Lanes {
     pairs: [u16; 16],
     uppers: [u16; 16],

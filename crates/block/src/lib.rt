@@ -33,7 +33,7 @@ ghost use Rattle.block.specs.Legal.{legal_place};
 ghost use Rattle.block.specs.Slot.{judged, block_at, new_bytes_at};
 
 // What a block does, with the fields that only this kind has.
-#[derive(Drop)]
+#[derive(Clone, Copy)]
 pub enum Kind {
     // new bytes for a page: the update's place in its group, the page, where in it, how many bytes
     Update {
@@ -53,7 +53,7 @@ pub enum Kind {
 }
 
 // A block, but for its new bytes and its check.
-#[derive(Drop)]
+#[derive(Clone, Copy)]
 pub struct Block {
     pub sequence: u64,
     pub keep_from: u64,
@@ -62,7 +62,7 @@ pub struct Block {
 }
 
 // Bytes 16 to 25 of a block: the kind's number, and the fields with 0 where the kind has none.
-#[derive(Drop)]
+#[derive(Clone, Copy)]
 pub struct Fields {
     pub kind: u64,
     pub index: usize,
@@ -72,7 +72,7 @@ pub struct Fields {
 }
 
 // What a slot holds.
-#[derive(Drop)]
+#[derive(Clone, Copy)]
 pub enum Judged {
     Unused,
     Damaged,
@@ -141,7 +141,7 @@ impl Block {
 
 // The sizes are those of the definitions.
 pub fn sizes() -> bool
-    ensures* { do ⌜ ((← (⟦Block::SIZE⟧).entry) ≡ block_size) × ((← (⟦Block::NEW_BYTES⟧).entry) ≡ new_bytes_most) × ((← (⟦Block::PAGE⟧).entry) ≡ page_size) ⌝ }
+    ensures { (Block.SIZE ≡ block_size) × (Block.NEW_BYTES ≡ new_bytes_most) × (Block.PAGE ≡ page_size) }
 {
     true
 }
