@@ -24,10 +24,10 @@ sum-most-After-wider-both c = c.requires c.loop-lane.lane c.loop-lane-test.true
 
 -- the remainder leaves it as it is
 both_is : (c : goal.After-wider-both) → c.wider-both.result ≡ lane_sum c.args.t1 c.loop-lane.lane
-both_is c = omega (arith, c.wider-both.ensures, c.lower.ensures, sum-most-After-wider-both c
+both_is c = omega (arith, c.wider-both.ensures, c.lower.ensures, sum-most-After-wider-both c)
 
 pub overflow_add-a : goal.overflow_add-a
-overflow_add-a c = omega (arith, both_is c, sum-most-After-wider-both c
+overflow_add-a c = omega (arith, both_is c, sum-most-After-wider-both c)
 
 -- the lane's sum is small
 sum-most-After-weight : (c : goal.After-weight)
@@ -36,16 +36,16 @@ sum-most-After-weight c = c.requires c.loop-lane.lane c.loop-lane-test.true
 
 -- the remainder leaves it as it is
 both_is-After-weight : (c : goal.After-weight) → c.wider-both.result ≡ lane_sum c.args.t1 c.loop-lane.lane
-both_is-After-weight c = omega (arith, c.wider-both.ensures, c.lower.ensures, sum-most-After-weight c
+both_is-After-weight c = omega (arith, c.wider-both.ensures, c.lower.ensures, sum-most-After-weight c)
 
 -- with its weight it is small too, and no less than without
 counted-most : (c : goal.After-weight) → c.weight.result * c.wider-both.result ≤ 32 * 8160
 counted-most c =
     mul-le-mul {n₁ = c.weight.result} {m₁ = c.wider-both.result} {n₂ = 32} {m₂ = 8160} c.weight.ensures.2
-    (omega (arith, both_is-After-weight c, sum-most-After-weight c)
+    (omega (arith, both_is-After-weight c, sum-most-After-weight c))
 
 pub overflow_mul-b-in-loop-lane : goal.overflow_mul-b-in-loop-lane
-overflow_mul-b-in-loop-lane c = omega (arith, counted-most c
+overflow_mul-b-in-loop-lane c = omega (arith, counted-most c)
 
 pub overflow_add-b : goal.overflow_add-b
 overflow_add-b c = omega (arith, counted-most c, c.wider.ensures, c.wider-in-loop-lane.ensures)
@@ -62,7 +62,7 @@ sum-most-After-wider-in-loop-lane-2 c = c.requires c.loop-lane.lane c.loop-lane-
 
 -- the remainder leaves it as it is
 both_is-After-wider-in-loop-lane-2 : (c : goal.After-wider-in-loop-lane-2) → c.wider-both.result ≡ lane_sum c.args.t1 c.loop-lane.lane
-both_is-After-wider-in-loop-lane-2 c = omega (arith, c.wider-both.ensures, c.lower.ensures, sum-most-After-wider-in-loop-lane-2 c
+both_is-After-wider-in-loop-lane-2 c = omega (arith, c.wider-both.ensures, c.lower.ensures, sum-most-After-wider-in-loop-lane-2 c)
 
 pub overflow_sub-b : goal.overflow_sub-b
 overflow_sub-b c = omega (arith, counted-least c, both_is-After-wider-in-loop-lane-2 c, c.wider-in-loop-lane-2.ensures)
@@ -71,7 +71,7 @@ overflow_sub-b c = omega (arith, counted-least c, both_is-After-wider-in-loop-la
 counted-most-After-wider-in-loop-lane-2 : (c : goal.After-wider-in-loop-lane-2) → c.weight.result * c.wider-both.result ≤ 32 * 8160
 counted-most-After-wider-in-loop-lane-2 c =
     mul-le-mul {n₁ = c.weight.result} {m₁ = c.wider-both.result} {n₂ = 32} {m₂ = 8160} c.weight.ensures.2
-    (omega (arith, both_is-After-wider-in-loop-lane-2 c, sum-most-After-wider-in-loop-lane-2 c)
+    (omega (arith, both_is-After-wider-in-loop-lane-2 c, sum-most-After-wider-in-loop-lane-2 c))
 
 pub overflow_add-b-in-loop-lane : goal.overflow_add-b-in-loop-lane
 overflow_add-b-in-loop-lane c = omega (arith, counted-most-After-wider-in-loop-lane-2 c, c.wider.ensures, c.wider-in-loop-lane.ensures)
@@ -88,7 +88,7 @@ loop-lane-preserved c =
     omega (arith, c.wider.ensures, c.wider-in-loop-lane.ensures, c.lower-lowertotal.ensures) in
     let enough = sub-b c in (
       omega arith,
-      omega (arith, both, sum-most-After-wider-in-loop-lane-2 c,
+      omega (arith, both, sum-most-After-wider-in-loop-lane-2 c),
       omega (arith, counted-most-After-wider-in-loop-lane-2 c, c.wider.ensures, c.wider-in-loop-lane.ensures),
       omega (arith, both, sum-next l (lane_sum lanes), at.invariant.3),
       omega (

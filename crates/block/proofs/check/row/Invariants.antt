@@ -4,16 +4,16 @@ use Rattle.block.proofs.Lanes.{SetBelow}
 use Rattle.block.proofs.check.row.Given as goal
 
 abbrev pub invariant-loop-lane : goal.invariant-loop-lane
-invariant-loop-lane l =
-    (l.lane ≤ 16)
-    × (length l.pairs ≡ 16)
-    × (length l.uppers ≡ 16)
-    × (length l.pairtotals ≡ 16)
-    × (length l.uppertotals ≡ 16)
-    × SetBelow l.lane l.initial.pairs (λ l. (get_or l.initial.pairs l 0 + (get_or l.bytes (2 * l) 0 + 256 * get_or l.bytes (2 * l + 1) 0)) % 65536) l.pairs
-    × SetBelow l.lane l.initial.uppers (λ l. get_or l.initial.uppers l 0 + get_or l.bytes (2 * l + 1) 0) l.uppers
-    × SetBelow l.lane l.initial.pairtotals (λ l. (get_or l.initial.pairtotals l 0 + get_or l.initial.pairs l 0) % 65536) l.pairtotals
-    × SetBelow l.lane l.initial.uppertotals (λ l. get_or l.initial.uppertotals l 0 + get_or l.initial.uppers l 0) l.uppertotals
+invariant-loop-lane now =
+    (now.lane ≤ 16)
+    × (length now.pairs ≡ 16)
+    × (length now.uppers ≡ 16)
+    × (length now.pairtotals ≡ 16)
+    × (length now.uppertotals ≡ 16)
+    × SetBelow now.lane now.initial.pairs (λ l. (get_or now.initial.pairs l 0 + (get_or now.bytes (2 * l) 0 + 256 * get_or now.bytes (2 * l + 1) 0)) % 65536) now.pairs
+    × SetBelow now.lane now.initial.uppers (λ l. get_or now.initial.uppers l 0 + get_or now.bytes (2 * l + 1) 0) now.uppers
+    × SetBelow now.lane now.initial.pairtotals (λ l. (get_or now.initial.pairtotals l 0 + get_or now.initial.pairs l 0) % 65536) now.pairtotals
+    × SetBelow now.lane now.initial.uppertotals (λ l. get_or now.initial.uppertotals l 0 + get_or now.initial.uppers l 0) now.uppertotals
 
 abbrev pub decreases-loop-lane : goal.decreases-loop-lane
 decreases-loop-lane l = 16 - l.lane

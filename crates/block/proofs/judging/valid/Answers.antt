@@ -21,7 +21,7 @@ legal-at c = sym c.legal_block.ensures ∙ not-false c.legal_block.result c.if-n
 pub returns-then-own-place : goal.returns-then-own-place
 returns-then-own-place c =
     let args = c.args in
-    valid-elsewhere args.slots args.pages args.place args.slot.now args.block (legal-at c c.if-own-place.true
+    valid-elsewhere args.slots args.pages args.place args.slot.now args.block (legal-at c) c.if-own-place.true
 
 legal-at-After-length_of-count : (c : goal.After-length_of-count) → legal c.args.slots c.args.pages c.args.block ≡ true
 legal-at-After-length_of-count c = sym c.legal_block.ensures ∙ not-false c.legal_block.result c.if-not-legal_block.false
@@ -30,7 +30,7 @@ pub laid_out-requires : goal.laid_out-requires
 laid_out-requires c =
     let start = c in
     let n : c.length_of-count.result ≡ length_of start.args.block.kind = c.length_of-count.ensures in
-    (search rules, search rules, n, omega (arith, n, legal-count start.args.slots start.args.pages start.args.block (legal-at-After-length_of-count c))
+    (search rules, search rules, n, omega (arith, n, legal-count start.args.slots start.args.pages start.args.block (legal-at-After-length_of-count c)))
 
 legal-at-After-laid_out : (c : goal.After-laid_out) → legal c.args.slots c.args.pages c.args.block ≡ true
 legal-at-After-laid_out c = sym c.legal_block.ensures ∙ not-false c.legal_block.result c.if-not-legal_block.false
@@ -40,4 +40,4 @@ returns c =
     let args = c.args in
     c.laid_out.ensures
     ∙ ap (λ (count : ℕ). same args.slot.now (layout args.block (new_bytes_at args.slot.now count))) c.length_of-count.ensures
-    ∙ valid-here args.slots args.pages args.place args.slot.now args.block (legal-at-After-laid_out c c.if-own-place.false
+    ∙ valid-here args.slots args.pages args.place args.slot.now args.block (legal-at-After-laid_out c) c.if-own-place.false

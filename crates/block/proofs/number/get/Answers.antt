@@ -21,14 +21,14 @@ byte : (c : goal.After-shared_slice_known-1)
 byte c = omega (arith, c.shared_slice_known-1.given (c.args.place + (c.loop-i.i - 1)))
 
 pub overflow_cast-value : goal.overflow_cast-value
-overflow_cast-value c = omega (arith, byte c
+overflow_cast-value c = omega (arith, byte c)
 
 pub overflow_add-value-in-loop-i : goal.overflow_add-value-in-loop-i
 overflow_add-value-in-loop-i c =
     let at-loop = c in
     let width = at-loop.args.width in
     let i = at-loop.loop-i.i in
-    omega (arith, get-fits width i (i - 1) at-loop.loop-i.value _ (omega arith) (omega arith) (omega arith) at-loop.loop-i.invariant.2 (byte c)
+    omega (arith, get-fits width i (i - 1) at-loop.loop-i.value _ (omega arith) (omega arith) (omega arith) at-loop.loop-i.invariant.2 (byte c))
 
 pub loop-i-preserved : goal.loop-i-preserved
 loop-i-preserved c =
@@ -38,7 +38,7 @@ loop-i-preserved c =
     let value = at-loop.loop-i.value in (
       search rules,
       get-turn args.slot.now args.place args.width i (i - 1) value (omega arith) (omega arith) (omega arith) at-loop.loop-i.invariant.1,
-      below-turn args.width i (i - 1) value _ (omega arith) (omega arith) at-loop.loop-i.invariant.2 (byte c,
+      below-turn args.width i (i - 1) value _ (omega arith) (omega arith) at-loop.loop-i.invariant.2 (byte c),
     )
 
 pub returns : goal.returns
