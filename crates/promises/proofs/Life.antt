@@ -330,12 +330,12 @@ third-met log pages e f =
 -- ---- Read: the dirty page from its frame, another one from home
 
 abbrev home_lent : Bor (List ℕ)
-home_lent = record { ref_ptr = (1, 0); ghost_name = 1; now = home }
+home_lent = record { ref_ptr = (1, 0); now = home }
 
 abbrev frames_lent : Bor (List ℕ)
-frames_lent = record { ref_ptr = (2, 0); ghost_name = 2; now = frames' }
+frames_lent = record { ref_ptr = (2, 0); now = frames' }
 
-pub read-dirty-met : Reads dirty home_lent frames_lent 0 0 (record { ref_ptr = (2, 0); ghost_name = 3; now = entry.bytes })
+pub read-dirty-met : Reads dirty home_lent frames_lent 0 0 (record { ref_ptr = (2, 0); now = entry.bytes })
 unfolding read_refusal held_in sound_as first_groups dirty_numbers
 read-dirty-met = record {
   refusal = refl;
@@ -344,7 +344,7 @@ read-dirty-met = record {
   bytes_are = λ e. sym (ap (λ (es : List DirtyPage). shown (look_up 0 es) (page_at home 0)) one-dirty ∙ found-entry);
 }
 
-pub read-home-met : Reads dirty home_lent frames_lent 3 0 (record { ref_ptr = (1, 3072); ghost_name = 3; now = replicate 1024 0 })
+pub read-home-met : Reads dirty home_lent frames_lent 3 0 (record { ref_ptr = (1, 3072); now = replicate 1024 0 })
 unfolding read_refusal held_in sound_as first_groups dirty_numbers
 read-home-met = record {
   refusal = refl;

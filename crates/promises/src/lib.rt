@@ -7,14 +7,14 @@ ghost use Rattle.promises.specs.States.{all_zero_state, set_cleaning};
 ghost use Rattle.promises.specs.Open.{opened_state};
 
 // What a frame holds: a dirty page and its first group. First group 0: the frame is free.
-#[derive(Drop)]
+#[derive(Clone, Copy)]
 pub struct Dirty {
     pub page: u16,
     pub first: u64,
 }
 
 // An update that waits for its commit. Its bytes are the first of its staging area.
-#[derive(Drop)]
+#[derive(Clone, Copy)]
 pub struct Staged {
     pub page: u16,
     pub offset: u16,
@@ -23,7 +23,7 @@ pub struct Staged {
 }
 
 // A cleaning is idle, or at its first, second or third store of a named page.
-#[derive(Drop)]
+#[derive(Clone, Copy)]
 pub enum Cleaning {
     Idle,
     First(u16),
@@ -32,7 +32,7 @@ pub enum Cleaning {
 }
 
 // All that the store keeps between calls, apart from the four areas.
-#[derive(Drop)]
+#[derive(Clone, Copy)]
 pub struct State {
     // the counts of home's pages, of the log's slots and of frames
     pub pages: usize,
@@ -131,7 +131,7 @@ impl State {
 }
 
 // Why a call is refused, in the order of the refusals' numbers, 1 to 11, 13 and 14. docs/CALLS.md says what to do at each.
-#[derive(Drop)]
+#[derive(Clone, Copy)]
 pub enum Refusal {
     WrongLength,
     NotSound,
@@ -192,7 +192,7 @@ impl Refusal {
 }
 
 // What Format, Begin, Describe and Clean step answer.
-#[derive(Drop)]
+#[derive(Clone, Copy)]
 pub enum Answer {
     Refused(Refusal),
     Done,
@@ -213,14 +213,14 @@ impl Answer {
 }
 
 // What End answers: the transaction's ticket.
-#[derive(Drop)]
+#[derive(Clone, Copy)]
 pub enum Ended {
     Refused(Refusal),
     Ticket(u64),
 }
 
 // What Log step answers: an update was stored; or the commit was, and its ticket is settled.
-#[derive(Drop)]
+#[derive(Clone, Copy)]
 pub enum Logged {
     Refused(Refusal),
     Stored,
@@ -228,14 +228,14 @@ pub enum Logged {
 }
 
 // What Open answers: the refusal with the place in the log, or the last committed ticket, which is settled.
-#[derive(Drop)]
+#[derive(Clone, Copy)]
 pub enum Opened {
     Refused(Refusal, u64),
     Settled(u64),
 }
 
 // What Settled answers.
-#[derive(Drop)]
+#[derive(Clone, Copy)]
 pub enum Standing {
     Refused(Refusal),
     Yes,
@@ -244,7 +244,7 @@ pub enum Standing {
 
 // What a copy's feed answers: the refusal with the place in the log; the copy had the block already; half a page was stored, and the block
 // is to be fed again; or the block is in the copy's log.
-#[derive(Drop)]
+#[derive(Clone, Copy)]
 pub enum Fed {
     Refused(Refusal, u64),
     Had,
@@ -253,35 +253,35 @@ pub enum Fed {
 }
 
 // What Begin, Describe and Clean step hand back.
-#[derive(Drop)]
+#[derive(Clone, Copy)]
 pub struct Outcome {
     pub state: State,
     pub answer: Answer,
 }
 
 // What End hands back.
-#[derive(Drop)]
+#[derive(Clone, Copy)]
 pub struct EndOutcome {
     pub state: State,
     pub answer: Ended,
 }
 
 // What Log step hands back.
-#[derive(Drop)]
+#[derive(Clone, Copy)]
 pub struct LogOutcome {
     pub state: State,
     pub answer: Logged,
 }
 
 // What Open and the opening of a copy hand back.
-#[derive(Drop)]
+#[derive(Clone, Copy)]
 pub struct OpenOutcome {
     pub state: State,
     pub answer: Opened,
 }
 
 // What a copy's feed hands back.
-#[derive(Drop)]
+#[derive(Clone, Copy)]
 pub struct FeedOutcome {
     pub state: State,
     pub answer: Fed,

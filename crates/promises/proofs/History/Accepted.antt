@@ -173,10 +173,12 @@ walk_at t = record { group = []; start = 0; ticket = t; dirty_pages = [] }
 ok-first : (F : ℕ) (home : ℕ → List ℕ) (b : Kind) (t : ℕ) → Begins b → block_stands F home b t (walk_at t) ≡ true
 unfolding block_stands
 ok-first F home (update i u) t first = eq-eqb t t refl
+ok-first F home (commit n) t begins = elim begins [ ]
 ok-first F home (clean q) t cleans = eq-eqb t t refl
 
 right-ticket : (F P j m : ℕ) (ts : Views) (b : Kind) (t : ℕ) → Begins b → Right F P j m ts b t → t ≡ m
 right-ticket F P j m ts (update i u) t first r = r.2
+right-ticket F P j m ts (commit n) t begins r = elim begins [ ]
 right-ticket F P j m ts (clean q) t cleans r = r
 
 tells_none : (home : ℕ → List ℕ) (p t : ℕ) → Tells home p (walk_at t) no_view

@@ -13,11 +13,19 @@ pub data Mix : List ℕ → List ℕ → List ℕ → Type 0 where
   old : {a b : ℕ} {p f h : List ℕ} → Mix p f h → Mix (a ∷ p) (b ∷ f) (a ∷ h)
   new : {a b : ℕ} {p f h : List ℕ} → Mix p f h → Mix (a ∷ p) (b ∷ f) (b ∷ h)
 
+-- a page mixed with an equal one
+mixed-with : {p f h : List ℕ} → Mix p f h → f ≡ p → h ≡ p
+mixed-with none e = refl
+mixed-with (old {a = a} {b = b} {p = p} {f = f} m) e = let tails : f ≡ p = cc in ap (λ (l : List ℕ). a ∷ l) (mixed-with m tails)
+mixed-with (new {a = a} {b = b} {p = p} {f = f} {h = h} m) e =
+    let tails : f ≡ p = cc in
+    let heads : b ≡ a = cc in
+    let same : h ≡ p = mixed-with m tails in
+    cc
+
 -- a page mixed with itself
 pub mixed-self : {p h : List ℕ} → Mix p p h → h ≡ p
-mixed-self none = refl
-mixed-self (old {a = a} m) = ap (λ (l : List ℕ). a ∷ l) (mixed-self m)
-mixed-self (new {a = a} m) = ap (λ (l : List ℕ). a ∷ l) (mixed-self m)
+mixed-self m = mixed-with m refl
 
 pub mixed-old : (p f : List ℕ) → length p ≡ length f → Mix p f p
 mixed-old [] [] e = none

@@ -71,6 +71,7 @@ below-same (some h) = stale h
 pub sim-begin : {k : ℕ} (p j : ℕ) (b : Kind) (t : View) → Begins b → Below k t.page → Sim k (view_block p j b t) (view_block p j b no_view)
 unfolding view_block
 sim-begin p j (update i u) t first l = record { group = refl; start = refl; page = below-same l }
+sim-begin p j (commit n) t begins l = elim begins [ ]
 sim-begin p j (clean q) t cleans l = record { group = refl; start = refl; page = same_cond (eqb p q) (below-same l) }
 
 pub track-append : (p j : ℕ) (xs ys : List LogBlock) (t : View) → view_from p j (xs ++ ys) t ≡ view_from p (length xs + j) ys (view_from p j xs t)
