@@ -1,11 +1,13 @@
 // A desk and a broker's copy of it, both in memory. The desk's blocks are fed to the copy one by one, and the power of either is cut on the
 // way. After each event a line shows the same two pages on both sides: the coupon date on page 0 and its accrual on page 1.
 use block::Block;
-use libc::STDOUT_FILENO;
 use promises::State;
 
+// Standard output.
+const STDOUT: i32 = 1;
+
 fn say(text: &[u8]) {
-    io::write_all(STDOUT_FILENO, text);
+    io::write_all(STDOUT, text);
 }
 
 // Prints the first ten bytes of a page, as the store shows it.
@@ -22,7 +24,7 @@ fn show<'a>(state: State, home: &'a [u8], frames: &'a [u8], page: usize) {
 fn sheet<'a>(name: &[u8], state: State, home: &'a [u8], frames: &'a [u8]) {
     say(name);
     if 0 < state.next {
-        io::print_decimal(STDOUT_FILENO, state.next - 1);
+        io::print_decimal(STDOUT, state.next - 1);
     }
     show(state, home, frames, 0);
     show(state, home, frames, 1);
@@ -129,7 +131,7 @@ fn lose(memory: &mut [u8]) {
 }
 
 // Both sides' states.
-#[derive(Drop)]
+#[derive(Clone, Copy)]
 struct Both {
     desk: State,
     copy: State,

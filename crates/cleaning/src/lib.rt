@@ -99,7 +99,7 @@ fn named_in(cleaning: Cleaning) -> u64
 }
 
 // A frame and its entry.
-#[derive(Drop)]
+#[derive(Clone, Copy)]
 pub struct Choice {
     pub frame: usize,
     pub entry: Dirty,

@@ -20,7 +20,7 @@ use promises::{Dirty, State};
 
 // What is decided of a fed block: it breaks the layout; its sequence is above next; a refusal by number, with its place; the copy had it
 // already; or it passed every test.
-#[derive(Drop)]
+#[derive(Clone, Copy)]
 pub enum Decision {
     Bad,
     Ahead,

@@ -1,16 +1,18 @@
 // A first transaction: a coupon date on page 0 and its accrual on page 1 are written together. The power is cut after none, one, two and all
 // of its blocks, and each time both pages are as they were, or both are changed. (A program looks at each answer; here only Read's is.)
 use block::Block;
-use libc::STDOUT_FILENO;
 use promises::State;
+
+// Standard output.
+const STDOUT: i32 = 1;
 
 // Prints the first ten bytes of a page, as the store shows it.
 fn show<'a>(state: State, home: &'a [u8], frames: &'a [u8], page: usize) {
     let mut refusal = 0;
     let bytes = store::read(state, home, frames, page, &mut refusal);
     if (refusal == 0) & (10 <= bytes.len()) {
-        io::write_all(STDOUT_FILENO, b" ");
-        io::write_all(STDOUT_FILENO, &bytes[..10]);
+        io::write_all(STDOUT, b" ");
+        io::write_all(STDOUT, &bytes[..10]);
     }
 }
 
@@ -41,11 +43,11 @@ fn cut_after(blocks: u64) {
     frames = [255; 2 * Block::PAGE];
     staging = [255; 2 * Block::NEW_BYTES];
     let reopened = store::open(&log, &home, &mut frames, &staging);
-    io::print_decimal(STDOUT_FILENO, blocks);
-    io::write_all(STDOUT_FILENO, b" blocks stored:");
+    io::print_decimal(STDOUT, blocks);
+    io::write_all(STDOUT, b" blocks stored:");
     show(reopened.state, &home, &frames, 0);
     show(reopened.state, &home, &frames, 1);
-    io::write_all(STDOUT_FILENO, b"\n");
+    io::write_all(STDOUT, b"\n");
 }
 
 fn main() {

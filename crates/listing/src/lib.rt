@@ -22,7 +22,7 @@ pub const TEXT: usize = (SLOTS + 1) * lines::LINE;
 
 // What an examination tells: the number of the refusal, 0 for none, and its place; or the newest sequence, its keep-from and the last
 // committed ticket.
-#[derive(Drop)]
+#[derive(Clone, Copy)]
 pub struct Examined {
     pub refusal: u64,
     pub place: u64,

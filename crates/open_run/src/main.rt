@@ -3,18 +3,20 @@
 ghost use Rattle.std.specs.Prelude.{◌≡◌, ◌≤◌, ◌<◌, length};
 
 use block::Block;
-use libc::STDOUT_FILENO;
 use promises::{Dirty, OpenOutcome, Opened, State};
+
+// Standard output.
+const STDOUT: i32 = 1;
 
 // Writes a text.
 fn word(text: &[u8]) {
-    io::write_all(STDOUT_FILENO, text);
+    io::write_all(STDOUT, text);
 }
 
 // Writes a text and a number.
 fn labelled(text: &[u8], number: u64) {
     word(text);
-    io::print_decimal(STDOUT_FILENO, number);
+    io::print_decimal(STDOUT, number);
 }
 
 // 1 for a frame in use, 0 for a free one.

@@ -17,7 +17,7 @@ use promises::{OpenOutcome, Opened, Refusal, State};
 use recovery::Stage;
 
 // What was found in a log: where the walk ended, and the newest sequence.
-#[derive(Drop)]
+#[derive(Clone, Copy)]
 pub struct Found {
     pub newest: u64,
     pub stage: Stage,

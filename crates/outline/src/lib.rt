@@ -15,21 +15,21 @@ pub const FRAMES: usize = 32;
 pub const GROUP: usize = 16;
 
 // A dirty page and its first group.
-#[derive(Drop)]
+#[derive(Clone, Copy)]
 pub struct Mark {
     pub page: usize,
     pub first: u64,
 }
 
 // The dirty pages. There is room for a group's pages beside those of all frames: a commit that leaves too many is seen by the count.
-#[derive(Drop)]
+#[derive(Clone, Copy)]
 pub struct Marks {
     pub count: usize,
     pub entries: [Mark; 48],
 }
 
 // A half group: its first sequence and its updates' pages. Start 0 and no page where there is none.
-#[derive(Drop)]
+#[derive(Clone, Copy)]
 pub struct Group {
     pub start: u64,
     pub count: usize,
@@ -38,7 +38,7 @@ pub struct Group {
 
 // A walk: the number of its refusal, 0 for none; the sequence that is next, or the refusal's place; the last committed ticket; a half
 // group; the dirty pages.
-#[derive(Drop)]
+#[derive(Clone, Copy)]
 pub struct Course {
     pub refusal: u64,
     pub place: u64,

@@ -1,13 +1,15 @@
 // Drives Format, Begin, Describe, End, Settled and Read on areas and states of its own and prints what comes out, one line a call.
-use libc::STDOUT_FILENO;
 use promises::{Answer, Cleaning, Dirty, Ended, Refusal, Standing, State};
 
+// Standard output.
+const STDOUT: i32 = 1;
+
 fn say(text: &[u8]) {
-    io::write_all(STDOUT_FILENO, text);
+    io::write_all(STDOUT, text);
 }
 
 fn show(number: u64) {
-    io::print_decimal(STDOUT_FILENO, number);
+    io::print_decimal(STDOUT, number);
 }
 
 fn show_byte(byte: u8) {

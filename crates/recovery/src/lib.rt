@@ -31,7 +31,7 @@ ghost use Rattle.recovery.specs.Walking.{
 use block::{Block, Judged, Kind};
 
 // What the slots tell: the largest valid sequence, 0 where no slot is valid, and whether all are unused.
-#[derive(Drop)]
+#[derive(Clone, Copy)]
 pub struct Scan {
     pub newest: u64,
     pub unused: bool,
@@ -39,7 +39,7 @@ pub struct Scan {
 
 // Where a walk stands: the number of its refusal, 0 for none, and the place; the last committed ticket; a half group's first block and
 // how many updates it has, 0 and 0 for none. The dirty pages are in the seats.
-#[derive(Drop)]
+#[derive(Clone, Copy)]
 pub struct Stage {
     pub refusal: u64,
     pub place: u64,

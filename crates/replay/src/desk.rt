@@ -6,7 +6,7 @@ use block::Block;
 use promises::State;
 
 // Bytes of each area.
-#[derive(Drop)]
+#[derive(Clone, Copy)]
 pub struct Lengths {
     pub log: usize,
     pub home: usize,
@@ -15,7 +15,7 @@ pub struct Lengths {
 }
 
 // Ready: areas were asked for.
-#[derive(Drop)]
+#[derive(Clone, Copy)]
 pub struct Desk {
     pub ready: bool,
     pub state: State,

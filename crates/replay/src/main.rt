@@ -10,7 +10,7 @@ use libc::STDIN_FILENO;
 use script::Reading;
 
 // What is read of the line at hand, the store as the lines before left it, and whether there is more to read.
-#[derive(Drop)]
+#[derive(Clone, Copy)]
 struct Progress {
     reading: Reading,
     desk: Desk,

@@ -1,23 +1,25 @@
 // The lines that answer.
-use libc::STDOUT_FILENO;
 use promises::{Answer, Ended, Logged, Opened, Refusal, Standing};
+
+// Standard output.
+const STDOUT: i32 = 1;
 
 // Writes text.
 pub fn say(text: &[u8]) {
-    io::write_all(STDOUT_FILENO, text);
+    io::write_all(STDOUT, text);
 }
 
 // A word, a number and the line's end.
 pub fn numbered(word: &[u8], number: u64) {
     say(word);
-    io::print_decimal(STDOUT_FILENO, number);
+    io::print_decimal(STDOUT, number);
     say(b"\n");
 }
 
 // Two words, each with a number, and the line's end.
 pub fn numbered_twice(first: &[u8], one: u64, second: &[u8], other: u64) {
     say(first);
-    io::print_decimal(STDOUT_FILENO, one);
+    io::print_decimal(STDOUT, one);
     numbered(second, other);
 }
 

@@ -10,7 +10,7 @@ pub use filling::{describe_bytes, fill, home_bytes};
 pub use parsing::{command_of, turn};
 
 // What a line asks for. Bad: the line is no command, or a number is out of the range that the language gives it.
-#[derive(Drop)]
+#[derive(Clone, Copy)]
 pub enum Command {
     Areas {
         slots: u64,
@@ -49,7 +49,7 @@ pub enum Command {
 
 // A line's letter and the numbers after it, as far as they are read. Count: the numbers begun, the newest last and the others
 // before it; digits: the newest has one.
-#[derive(Drop)]
+#[derive(Clone, Copy)]
 pub struct Line {
     pub letter: u8,
     pub count: usize,
@@ -61,7 +61,7 @@ pub struct Line {
 }
 
 // What is read of a line: nothing, a part that can still be a command's, or one that can't.
-#[derive(Drop)]
+#[derive(Clone, Copy)]
 pub enum Reading {
     Nothing,
     Partly(Line),

@@ -9,7 +9,7 @@ use promises::{Cleaning, Dirty};
 
 // What one pass over the frames tells: whether every entry is as it has to be, how many pages are dirty, and the oldest of a start
 // and of the first groups.
-#[derive(Drop)]
+#[derive(Clone, Copy)]
 pub struct Survey {
     pub legal: bool,
     pub count: usize,

@@ -18,7 +18,7 @@ use sums::Sums;
 pub const SEQUENCE_END: u64 = 281474976710656;
 
 // Whether a state is sound, and the sums over it where it is.
-#[derive(Drop)]
+#[derive(Clone, Copy)]
 pub struct Verdict {
     pub sound: bool,
     pub sums: Sums,

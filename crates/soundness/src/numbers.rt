@@ -5,7 +5,7 @@ ghost use Rattle.promises.specs.Sound.{member, distinct};
 use crate::wide;
 
 // The first count numbers of a list: page numbers or areas.
-#[derive(Drop)]
+#[derive(Clone, Copy)]
 pub struct Numbers {
     pub count: usize,
     pub list: [u16; 32],

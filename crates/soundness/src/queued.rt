@@ -11,7 +11,7 @@ use promises::Staged;
 
 // What one pass over the queued groups tells: whether each has 1 to 16 updates, how many updates the oldest has, 0 where no group is
 // queued, and V, how many all have.
-#[derive(Drop)]
+#[derive(Clone, Copy)]
 pub struct Sizes {
     pub legal: bool,
     pub oldest: usize,

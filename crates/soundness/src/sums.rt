@@ -7,7 +7,7 @@ ghost use Rattle.soundness.specs.Summed.{Addable, Summed};
 use promises::State;
 
 // H, W, D and V.
-#[derive(Drop)]
+#[derive(Clone, Copy)]
 pub struct Sums {
     pub held: usize,
     pub waiting: usize,

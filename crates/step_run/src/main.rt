@@ -1,15 +1,17 @@
 // Drives Log step and Clean step on areas and states of its own, and prints one line a call: the answer, then what the slot holds
 // that the call stored, or the first bytes of the page's halves at home. 8 slots, 4 pages and 2 frames.
 use block::{Block, Judged, Kind};
-use libc::STDOUT_FILENO;
 use promises::{Answer, Cleaning, Dirty, Logged, Staged, State};
 
+// Standard output.
+const STDOUT: i32 = 1;
+
 fn say(text: &[u8]) {
-    io::write_all(STDOUT_FILENO, text);
+    io::write_all(STDOUT, text);
 }
 
 fn show(number: u64) {
-    io::print_decimal(STDOUT_FILENO, number);
+    io::print_decimal(STDOUT, number);
 }
 
 fn show_byte(byte: u8) {

@@ -6,7 +6,7 @@ use promises::Dirty;
 
 // What the contracts of seats speak of, and no code uses: the dirty pages of `count` frames, each at its frame's index. `full`: a page found no
 // frame, and nothing is applied any more.
-#[derive(Drop)]
+#[derive(Clone, Copy)]
 pub struct Table {
     pub count: usize,
     pub full: bool,

@@ -8,7 +8,7 @@ ghost use Rattle.waiting.specs.Waiting.{world_of, LogsAll, CleansAll, BeginsWait
 use promises::{Answer, Logged, State};
 
 // Where steps of one kind ended: the state, the refusal that ended them, and how many were accepted before it.
-#[derive(Drop)]
+#[derive(Clone, Copy)]
 pub struct Stopped {
     pub state: State,
     pub answer: Answer,
@@ -16,7 +16,7 @@ pub struct Stopped {
 }
 
 // What a Begin that waits hands back: the state, the answer, and how many Log steps and Clean steps were accepted on the way.
-#[derive(Drop)]
+#[derive(Clone, Copy)]
 pub struct Waited {
     pub state: State,
     pub answer: Answer,

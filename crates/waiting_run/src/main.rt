@@ -2,17 +2,19 @@
 // store of F frames in which F pages wait for their commits, so that each frame gets a dirty page and the same Begin is accepted after
 // 3 F Clean steps. Then Begins that wait for less, and refusals.
 use block::Block;
-use libc::STDOUT_FILENO;
 use promises::{Answer, State};
 
+// Standard output.
+const STDOUT: i32 = 1;
+
 fn say(text: &[u8]) {
-    io::write_all(STDOUT_FILENO, text);
+    io::write_all(STDOUT, text);
 }
 
 // A word and a number after it.
 fn field(word: &[u8], number: u64) {
     say(word);
-    io::print_decimal(STDOUT_FILENO, number);
+    io::print_decimal(STDOUT, number);
 }
 
 fn show(answer: Answer) {

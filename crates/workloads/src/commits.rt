@@ -3,14 +3,14 @@ use crate::{calling, numbers};
 use promises::State;
 
 // The store as the calls before left it, and the digest of their answers.
-#[derive(Drop)]
+#[derive(Clone, Copy)]
 struct Progress {
     state: State,
     digest: u64,
 }
 
 // The pages and offsets of a transaction's two updates.
-#[derive(Drop)]
+#[derive(Clone, Copy)]
 struct Places {
     first_page: usize,
     first_offset: usize,
