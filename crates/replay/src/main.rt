@@ -6,8 +6,8 @@ mod saying;
 
 use block::Block;
 use desk::Desk;
-use libc::STDIN_FILENO;
 use script::Reading;
+use std::io::Read;
 
 // What is read of the line at hand, the store as the lines before left it, and whether there is more to read.
 #[derive(Clone, Copy)]
@@ -63,8 +63,9 @@ fn take_bytes(
     now
 }
 
-// What one read brings. A line that the input's end cuts off is no command.
-fn read_once(
+// What one read brings; a read that fails brings as much as the input's end. A line that the end cuts off is no command.
+fn read_once<R: Read>(
+    input: &mut R,
     progress: Progress,
     log: &mut [u8],
     home: &mut [u8],
@@ -72,8 +73,7 @@ fn read_once(
     staging: &mut [u8],
 ) -> Progress {
     let mut chunk = [0u8; 4096];
-    let got = libc::read(STDIN_FILENO, &mut chunk);
-    let count = io::count(got, &chunk);
+    let count = input.read(&mut chunk).unwrap_or(0);
     if 0 < count {
         return take_bytes(progress, &chunk[..count], log, home, frames, staging);
     }
@@ -93,7 +93,13 @@ fn read_once(
 
 // All that there is to read. A loop has to end, and nothing says that the input does: so it counts its turns down, from a number
 // that no run uses up.
-fn replay(log: &mut [u8], home: &mut [u8], frames: &mut [u8], staging: &mut [u8]) {
+fn replay<R: Read>(
+    input: &mut R,
+    log: &mut [u8],
+    home: &mut [u8],
+    frames: &mut [u8],
+    staging: &mut [u8],
+) {
     let mut progress = Progress {
         reading: Reading::Nothing,
         desk: desk::bare(),
@@ -101,16 +107,17 @@ fn replay(log: &mut [u8], home: &mut [u8], frames: &mut [u8], staging: &mut [u8]
     };
     let mut turns = u64::MAX;
     while (0 < turns) & progress.more {
-        progress = read_once(progress, log, home, frames, staging);
+        progress = read_once(input, progress, log, home, frames, staging);
         turns -= 1;
     }
 }
 
 // The four areas, as large as a script may ask for.
-fn main() {
+fn main(rt: HostRuntime) {
+    let mut input = rt.reader();
     let mut log = [0u8; 64 * Block::SIZE];
     let mut home = [0u8; 16 * Block::PAGE];
     let mut frames = [0u8; 8 * Block::PAGE];
     let mut staging = [0u8; 8 * Block::NEW_BYTES];
-    replay(&mut log, &mut home, &mut frames, &mut staging);
+    replay(&mut input, &mut log, &mut home, &mut frames, &mut staging);
 }
