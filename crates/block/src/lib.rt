@@ -20,6 +20,8 @@
 //
 // A slot is unused if all its bytes are zero, valid if every rule of this table holds and it is the slot of its sequence, else damaged.
 // docs/FORMAT.md has what the blocks of a log mean together.
+#![tactic(auto)]
+
 pub mod check;
 mod judging;
 mod number;

@@ -43,8 +43,8 @@ returns c =
     let copied = c.copy in
     let rows = c.rows.ensures.0 in
     let joined = c.joined-sums in
-    let bytes = copied.new.0 ++ [] ++ take 480 (drop 28 body) in
-    let all : bytes ≡ body = whole body copied.new.0 c.requires copied.ensures in
+    let bytes = copied.new.destination ++ [] ++ take 480 (drop 28 body) in
+    let all : bytes ≡ body = whole body copied.new.destination c.requires copied.ensures in
     let b : joined.result.b ≡ weighted (0 ∷ 0 ∷ 0 ∷ 0 ∷ bytes) = omega (arith, joined.ensures.1, rows.weightedly) in (
       ap (λ (n : ℕ). n % modulus) (joined.ensures.0 ∙ sym rows.plainly ∙ plain-front bytes ∙ ap plain all),
       ap (λ (n : ℕ). n % modulus) (b ∙ weighted-front bytes ∙ ap weighted all),

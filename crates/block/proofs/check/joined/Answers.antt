@@ -11,7 +11,7 @@ loop-lane-init c = (omega arith, omega arith, omega arith, refl, refl)
 
 -- the lane's sum is small
 sum-most : (c : goal.After-lower)
-    → lane_sum c.args.t1 c.loop-lane.lane ≤ 8160
+    → lane_sum c.args.lanes c.loop-lane.lane ≤ 8160
 sum-most c = c.requires c.loop-lane.lane c.loop-lane-test.true
 
 pub overflow_add-sum : goal.overflow_add-sum
@@ -19,11 +19,11 @@ overflow_add-sum c = omega (arith, sum-most c, c.lower.ensures)
 
 -- the lane's sum is small
 sum-most-After-wider-both : (c : goal.After-wider-both)
-    → lane_sum c.args.t1 c.loop-lane.lane ≤ 8160
+    → lane_sum c.args.lanes c.loop-lane.lane ≤ 8160
 sum-most-After-wider-both c = c.requires c.loop-lane.lane c.loop-lane-test.true
 
 -- the remainder leaves it as it is
-both_is : (c : goal.After-wider-both) → c.wider-both.result ≡ lane_sum c.args.t1 c.loop-lane.lane
+both_is : (c : goal.After-wider-both) → c.wider-both.result ≡ lane_sum c.args.lanes c.loop-lane.lane
 both_is c = omega (arith, c.wider-both.ensures, c.lower.ensures, sum-most-After-wider-both c)
 
 pub overflow_add-a : goal.overflow_add-a
@@ -31,11 +31,11 @@ overflow_add-a c = omega (arith, both_is c, sum-most-After-wider-both c)
 
 -- the lane's sum is small
 sum-most-After-weight : (c : goal.After-weight)
-    → lane_sum c.args.t1 c.loop-lane.lane ≤ 8160
+    → lane_sum c.args.lanes c.loop-lane.lane ≤ 8160
 sum-most-After-weight c = c.requires c.loop-lane.lane c.loop-lane-test.true
 
 -- the remainder leaves it as it is
-both_is-After-weight : (c : goal.After-weight) → c.wider-both.result ≡ lane_sum c.args.t1 c.loop-lane.lane
+both_is-After-weight : (c : goal.After-weight) → c.wider-both.result ≡ lane_sum c.args.lanes c.loop-lane.lane
 both_is-After-weight c = omega (arith, c.wider-both.ensures, c.lower.ensures, sum-most-After-weight c)
 
 -- with its weight it is small too, and no less than without
@@ -57,11 +57,11 @@ counted-least c =
 
 -- the lane's sum is small
 sum-most-After-wider-in-loop-lane-2 : (c : goal.After-wider-in-loop-lane-2)
-    → lane_sum c.args.t1 c.loop-lane.lane ≤ 8160
+    → lane_sum c.args.lanes c.loop-lane.lane ≤ 8160
 sum-most-After-wider-in-loop-lane-2 c = c.requires c.loop-lane.lane c.loop-lane-test.true
 
 -- the remainder leaves it as it is
-both_is-After-wider-in-loop-lane-2 : (c : goal.After-wider-in-loop-lane-2) → c.wider-both.result ≡ lane_sum c.args.t1 c.loop-lane.lane
+both_is-After-wider-in-loop-lane-2 : (c : goal.After-wider-in-loop-lane-2) → c.wider-both.result ≡ lane_sum c.args.lanes c.loop-lane.lane
 both_is-After-wider-in-loop-lane-2 c = omega (arith, c.wider-both.ensures, c.lower.ensures, sum-most-After-wider-in-loop-lane-2 c)
 
 pub overflow_sub-b : goal.overflow_sub-b
@@ -80,13 +80,14 @@ pub loop-lane-preserved : goal.loop-lane-preserved
 loop-lane-preserved c =
     let at = c.loop-lane in
     let l = at.lane in
-    let lanes = c.args.t1 in
+    let lanes = c.args.lanes in
     let both = both_is-After-wider-in-loop-lane-2 c in
     let counted : c.weight.result * c.wider-both.result ≡ (32 - 2 * l) * lane_sum lanes l =
     ap₂ (λ (n m : ℕ). n * m) c.weight.ensures.0 both in
     let total : c.wider.result + c.wider-in-loop-lane.result ≡ lane_total lanes l =
     omega (arith, c.wider.ensures, c.wider-in-loop-lane.ensures, c.lower-lowertotal.ensures) in
-    let enough = sub-b c in (
+    let enough : c.wider-in-loop-lane-2.result ≤ 32 * (c.wider.result + c.wider-in-loop-lane.result) + c.weight.result * c.wider-both.result =
+    omega (arith, counted-least c, both, c.wider-in-loop-lane-2.ensures) in (
       omega arith,
       omega (arith, both, sum-most-After-wider-in-loop-lane-2 c),
       omega (arith, counted-most-After-wider-in-loop-lane-2 c, c.wider.ensures, c.wider-in-loop-lane.ensures),

@@ -6,4 +6,4 @@ use Rattle.block.proofs.check.lower.Goals as goal
 
 pub returns : goal.returns
 returns c =
-    lower-whole c.args.pairs c.args.uppers c.wrapping_sub_u16.result (omega arith) c.wrapping_sub_u16.ensures
+    lower-whole c.args.pairs c.args.uppers c.wrapping_sub_u16.result (omega arith) c.wrapping_sub_u16.ensures.value

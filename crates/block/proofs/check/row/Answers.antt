@@ -1,6 +1,6 @@
 -- `check::row` meets its contract. The loop's invariant: the lanes passed have taken in their pair, the others are as they were.
 -- Assumes nothing.
-use Rattle.std.proofs.Common.{◌≡◌, ◌+◌, ◌-◌, ◌*◌, ◌/◌, ◌%◌, ◌≤◌, get_or, refl, ◌∙◌, arith, rules}
+use Rattle.std.proofs.Common.{◌≡◌, ◌+◌, ◌*◌, ◌/◌, ◌%◌, ◌≤◌, get_or, refl, ◌∙◌, arith, rules}
 use Rattle.block.proofs.Lanes.{none-set, lane-set}
 use Rattle.block.proofs.check.row.Goals as goal
 
@@ -47,11 +47,11 @@ loop-lane-preserved c =
       search rules,
       search rules,
       lane-set l before.pairs (λ k. (get_or before.pairs k 0 + (get_or bytes (2 * k) 0 + 256 * get_or bytes (2 * k + 1) 0)) % 65536) at.pairs
-          c.wrapping_add_u16-in-loop-lane.result (omega arith) (c.wrapping_add_u16-in-loop-lane.ensures ∙ rw (p, whole) refl) at.invariant.5,
+          c.wrapping_add_u16-in-loop-lane.result (omega arith) (c.wrapping_add_u16-in-loop-lane.ensures.value ∙ rw (p, whole) refl) at.invariant.5,
       lane-set l before.uppers (λ k. get_or before.uppers k 0 + get_or bytes (2 * k + 1) 0) at.uppers
           (get_or at.uppers l 0 + number.result / 256) (omega arith) (rw (u, upper) refl) at.invariant.6,
       lane-set l before.pairtotals (λ k. (get_or before.pairtotals k 0 + get_or before.pairs k 0) % 65536) at.pairtotals
-          c.wrapping_add_u16.result (omega arith) (c.wrapping_add_u16.ensures ∙ rw (pt, p) refl) at.invariant.7,
+          c.wrapping_add_u16.result (omega arith) (c.wrapping_add_u16.ensures.value ∙ rw (pt, p) refl) at.invariant.7,
       lane-set l before.uppertotals (λ k. get_or before.uppertotals k 0 + get_or before.uppers k 0) at.uppertotals
           (get_or at.uppertotals l 0 + get_or at.uppers l 0) (omega arith) (rw (ut, u) refl) at.invariant.8,
     )

@@ -3,7 +3,6 @@
 use Rattle.std.proofs.Common.{◌≡◌, ◌-◌, length, take, drop, sym, refl, ap, ◌∙◌, arith, length-drop, length-take, take_all}
 use Rattle.block.specs.Slot.{all_zero}
 use Rattle.block.proofs.Zeros.{row-passed, row-not, rest-zero}
-use borrow.Author.Tests.{not-true, not-false}
 use Rattle.block.proofs.judging.blank.Goals as goal
 
 pub returns-then-bytes-lt128 : goal.returns-then-bytes-lt128
@@ -20,14 +19,14 @@ returns-then-not-row_blank c =
     let bytes = c.args.bytes.now in
     let row = c.row_blank in
     let at = c.loop-i in
-    sym (at.invariant.1 ∙ row-not bytes at.i 128 (sym row.ensures ∙ not-true row.result c.if-not-row_blank.true))
+    sym (at.invariant.1 ∙ row-not bytes at.i 128 (sym row.ensures ∙ c.if-not-row_blank.true))
 
 pub loop-i-preserved : goal.loop-i-preserved
 loop-i-preserved c =
     let bytes = c.args.bytes.now in
     let row = c.row_blank in
     let at = c.loop-i in
-    (omega arith, at.invariant.1 ∙ row-passed bytes at.i 128 (sym row.ensures ∙ not-false row.result c.if-not-row_blank.false))
+    (omega arith, at.invariant.1 ∙ row-passed bytes at.i 128 (sym row.ensures ∙ c.if-not-row_blank.false))
 
 pub row_blank-requires-2 : goal.row_blank-requires-2
 row_blank-requires-2 c = simp (length-take, length-drop) (omega arith)

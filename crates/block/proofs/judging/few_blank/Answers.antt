@@ -1,6 +1,6 @@
 -- `judging::few_blank` meets its contract. The loop's invariant: all bytes are zero if the largest of those read is and those left are.
 -- Assumes nothing.
-use Rattle.std.proofs.Common.{ℕ, ◌+◌, ◌-◌, ◌&&◌, eqb, drop, sym, ap, ◌∙◌, rules}
+use Rattle.std.proofs.Common.{ℕ, ◌+◌, ◌&&◌, eqb, drop, sym, ap, ◌∙◌, rules}
 use Rattle.block.specs.Slot.{all_zero}
 use Rattle.block.proofs.Zeros.{most-turn, most-end}
 use Rattle.block.proofs.judging.few_blank.Goals as goal

@@ -1,7 +1,6 @@
 -- `judging::valid` meets its contract: an answer for each rule.
 -- Assumes nothing.
 use Rattle.std.proofs.Common.{◌≡◌, ℕ, true, sym, ap, ◌∙◌, arith, rules}
-use borrow.Author.Tests.{not-true, not-false}
 use Rattle.block.specs.Kind.{length_of}
 use Rattle.block.specs.Layout.{layout}
 use Rattle.block.specs.Legal.{legal}
@@ -13,10 +12,10 @@ pub returns-then-not-legal_block : goal.returns-then-not-legal_block
 returns-then-not-legal_block c =
     let args = c.args in
     valid-illegal args.slots args.pages args.place args.slot.now args.block
-    (sym c.legal_block.ensures ∙ not-true c.legal_block.result c.if-not-legal_block.true)
+    (sym c.legal_block.ensures ∙ c.if-not-legal_block.true)
 
 legal-at : (c : goal.Then-own-place) → legal c.args.slots c.args.pages c.args.block ≡ true
-legal-at c = sym c.legal_block.ensures ∙ not-false c.legal_block.result c.if-not-legal_block.false
+legal-at c = sym c.legal_block.ensures ∙ c.if-not-legal_block.false
 
 pub returns-then-own-place : goal.returns-then-own-place
 returns-then-own-place c =
@@ -24,7 +23,7 @@ returns-then-own-place c =
     valid-elsewhere args.slots args.pages args.place args.slot.now args.block (legal-at c) c.if-own-place.true
 
 legal-at-After-length_of-count : (c : goal.After-length_of-count) → legal c.args.slots c.args.pages c.args.block ≡ true
-legal-at-After-length_of-count c = sym c.legal_block.ensures ∙ not-false c.legal_block.result c.if-not-legal_block.false
+legal-at-After-length_of-count c = sym c.legal_block.ensures ∙ c.if-not-legal_block.false
 
 pub laid_out-requires : goal.laid_out-requires
 laid_out-requires c =
@@ -33,7 +32,7 @@ laid_out-requires c =
     (search rules, search rules, n, omega (arith, n, legal-count start.args.slots start.args.pages start.args.block (legal-at-After-length_of-count c)))
 
 legal-at-After-laid_out : (c : goal.After-laid_out) → legal c.args.slots c.args.pages c.args.block ≡ true
-legal-at-After-laid_out c = sym c.legal_block.ensures ∙ not-false c.legal_block.result c.if-not-legal_block.false
+legal-at-After-laid_out c = sym c.legal_block.ensures ∙ c.if-not-legal_block.false
 
 pub returns : goal.returns
 returns c =

@@ -1,6 +1,6 @@
 -- `judging::zeros` meets its contract. The loop's invariant: all bytes are zero if those left are.
 -- Assumes nothing.
-use Rattle.std.proofs.Common.{◌-◌, sym, ◌∙◌, arith, rules}
+use Rattle.std.proofs.Common.{sym, ◌∙◌, arith, rules}
 use Rattle.block.proofs.Zeros.{zeros-turn, zeros-not, zeros-end}
 use Rattle.block.proofs.judging.zeros.Goals as goal
 

@@ -1,6 +1,6 @@
 -- `number::put` meets its contract. The loop's invariant: what is to be stored is what the bytes of left will make of the block as it is.
 -- Assumes nothing.
-use Rattle.std.proofs.Common.{◌-◌, sym, ◌∙◌, rules}
+use Rattle.std.proofs.Common.{sym, ◌∙◌, rules}
 use Rattle.block.proofs.Stores.{put-start, put-turn, put-end}
 use Rattle.block.proofs.number.put.Goals as goal
 

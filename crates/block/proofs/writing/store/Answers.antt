@@ -19,10 +19,9 @@ use Rattle.block.proofs.writing.store.Goals as goal
 abbrev unchecked : Block → List ℕ → List ℕ
 unchecked block new = body block new ++ replicate 4 0
 
-abbrev built : tie.After-copy → List ℕ
-built c =
-    put_mid header_size (header_size + length c.before.before.before.before.before.before.args.new.now - header_size) c.before.before.put-header.new.0
-    c.copy.new.0
+-- the array, whose part behind the header is lent to the copy
+abbrev built : List ℕ → List ℕ → List ℕ → List ℕ
+built new head copied = put_mid header_size (header_size + length new - header_size) head copied
 
 -- the array keeps its length
 head-long : (c : goal.After-put_header) → length c.put_header.new.b ≡ block_size
@@ -32,7 +31,7 @@ pub slice_bounds-b-end : goal.slice_bounds-b-end
 slice_bounds-b-end c = omega (arith, head-long c)
 
 built-is : (c : goal.After-b-4-1)
-    → built c ≡ unchecked c.args.block c.args.new.now
+    → built c.args.new.now c.put_header.new.b c.copy.new.destination ≡ unchecked c.args.block c.args.new.now
 built-is c =
     let start = c in
     let new = start.args.new.now in
@@ -40,7 +39,7 @@ built-is c =
     ∙ ap (λ (l : List ℕ). splice l header_size (length new) new) c.put_header.ensures
     ∙ body-stored start.args.block new start.requires.1
 
-built-long : (c : goal.After-b-4-1) → length (built c) ≡ block_size
+built-long : (c : goal.After-b-4-1) → length (built c.args.new.now c.put_header.new.b c.copy.new.destination) ≡ block_size
 built-long c =
     let start = c in
     let long : length (body start.args.block start.args.new.now) ≡ body_size = length-body start.args.block start.args.new.now start.requires.1 in
@@ -53,7 +52,7 @@ pub copy-requires-2 : goal.copy-requires-2
 copy-requires-2 c = c.requires.0 ∙ sym (built-long c)
 
 built-is-After-slice_known-2-1 : (c : goal.After-slice_known-2-1)
-    → built c ≡ unchecked c.args.block c.args.new.now
+    → built c.args.new.now c.put_header.new.b c.copy.new.destination ≡ unchecked c.args.block c.args.new.now
 built-is-After-slice_known-2-1 c =
     let start = c in
     let new = start.args.new.now in
@@ -61,7 +60,7 @@ built-is-After-slice_known-2-1 c =
     ∙ ap (λ (l : List ℕ). splice l header_size (length new) new) c.put_header.ensures
     ∙ body-stored start.args.block new start.requires.1
 
-built-long-After-slice_known-2-1 : (c : goal.After-slice_known-2-1) → length (built c) ≡ block_size
+built-long-After-slice_known-2-1 : (c : goal.After-slice_known-2-1) → length (built c.args.new.now c.put_header.new.b c.copy.new.destination) ≡ block_size
 built-long-After-slice_known-2-1 c =
     let start = c in
     let long : length (body start.args.block start.args.new.now) ≡ body_size = length-body start.args.block start.args.new.now start.requires.1 in
@@ -79,7 +78,7 @@ check_of-sums-requires c =
     length-take-le body_size c.copy-2.new.destination (omega (arith, ap length c.copy-2.ensures, built-long-After-slice_known-2-1 c))
 
 built-is-After-b-7-1 : (c : goal.After-b-7-1)
-    → built c ≡ unchecked c.args.block c.args.new.now
+    → built c.args.new.now c.put_header.new.b c.copy.new.destination ≡ unchecked c.args.block c.args.new.now
 built-is-After-b-7-1 c =
     let start = c in
     let new = start.args.new.now in
@@ -109,7 +108,7 @@ laid-long c = ap length (laid c) ∙ length-layout c.args.block c.args.new.now c
 pub slice_bounds-copy_part-end : goal.slice_bounds-copy_part-end
 slice_bounds-copy_part-end c = sym (laid-long c)
 
-built-long-After-b-7-1 : (c : goal.After-b-7-1) → length (built c) ≡ block_size
+built-long-After-b-7-1 : (c : goal.After-b-7-1) → length (built c.args.new.now c.put_header.new.b c.copy.new.destination) ≡ block_size
 built-long-After-b-7-1 c =
     let start = c in
     let long : length (body start.args.block start.args.new.now) ≡ body_size = length-body start.args.block start.args.new.now start.requires.1 in
@@ -121,7 +120,7 @@ copy_part-requires c =
     (omega (arith, ap length c.copy-2.ensures, built-long-After-b-7-1 c), omega (arith, n))
 
 built-is-After-slice_known-3-1 : (c : goal.After-slice_known-3-1)
-    → built c ≡ unchecked c.args.block c.args.new.now
+    → built c.args.new.now c.put_header.new.b c.copy.new.destination ≡ unchecked c.args.block c.args.new.now
 built-is-After-slice_known-3-1 c =
     let start = c in
     let new = start.args.new.now in
