@@ -1,4 +1,6 @@
 // Parts of lent byte slices: copying and clearing them. The lowest layer; it knows no format and no size.
+#![tactic(auto)]
+
 ghost use Rattle.std.specs.Prelude.{◌≡◌, ◌+◌, ◌≤◌, length, replicate};
 ghost use Rattle.area.specs.Part.{part, splice};
 

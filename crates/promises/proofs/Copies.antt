@@ -27,13 +27,12 @@ use Rattle.promises.specs.Answers.{Reply, fed_answered}
 use Rattle.promises.specs.Feed.{own_start, updates_from, standing, keep_right, span_fits, Feeding, stops, had, first, second, takes, fed_slot, feeding, FramesAfter, Takes, Same, after}
 use Rattle.promises.specs.States.{set_cleaning}
 use Rattle.promises.specs.Events.{Sizes, World}
-use Rattle.promises.specs.Copy as copy
 use Rattle.promises.specs.Copy.{CopyBook, took, took_all, feeds, taken_in, CopyFeeding}
 use Rattle.promises.proofs.History.Machine.{Live, idle, second as second', set_page, half_stored, World as Machine, up}
 use Rattle.promises.proofs.History.Ledger as ledger
 use Rattle.promises.proofs.History.Stored.{store}
 use Rattle.promises.proofs.History.Sees.{by-eq, Sees, clear}
-use Rattle.promises.proofs.History.Views.{Page, dirty, updates_of, View}
+use Rattle.promises.proofs.History.Views.{Page, updates_of, View}
 use Rattle.promises.proofs.History.Tally.{look_up-page}
 use Rattle.promises.proofs.History.Invariant as inv
 use Rattle.promises.proofs.History.Invariant.{Stage, Disk, Alive, view, view-snoc, frame_right, invariant-front, invariant-back, same-page, other-page}

@@ -12,7 +12,7 @@ use Rattle.promises.specs.declared.State.{State}
 use Rattle.promises.specs.Blocks.{LogBlock, slots_of, no_block}
 use Rattle.promises.specs.Newest.{newest}
 use Rattle.promises.specs.Walk as walking
-use Rattle.promises.specs.Answers.{Reply, refuses, shows, taken, accepts}
+use Rattle.promises.specs.Answers.{Reply, refuses, shows, accepts}
 use Rattle.promises.specs.Feed.{Feeding, stops, had, first, second, takes, feeding}
 use Rattle.promises.specs.CopyOpen.{copy_finding}
 use Rattle.promises.specs.Book.{Book}

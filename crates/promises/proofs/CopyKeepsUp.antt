@@ -22,7 +22,6 @@ use Rattle.promises.specs.Walk.{Walk, walk_block, in_order, framed}
 use Rattle.promises.specs.Sound.{copy_sound}
 use Rattle.promises.specs.Answers.{Reply, not_yet, taken}
 use Rattle.promises.specs.Feed.{standing, own_start, keep_right, span_fits, lacking, lacking_at, Feeding, stops, had, first, second, takes, clean_stage, clean_found, store_of, turned, by_sequence, fed_slot, feeding, Halves}
-use Rattle.promises.specs.Book.{Book}
 use Rattle.promises.specs.Events.{Sizes, World}
 use Rattle.promises.specs.Claim.{promised}
 use Rattle.promises.specs.Stored.{stored_by}

@@ -21,7 +21,7 @@ use Rattle.promises.specs.States.{all_zero_state}
 use Rattle.promises.specs.Sound.{sound}
 use Rattle.promises.specs.Format.{format_refusal, Formats}
 use Rattle.promises.specs.Open.{open_finding}
-use Rattle.promises.specs.Book.{Book, blank, begun, gone}
+use Rattle.promises.specs.Book.{Book, blank, gone}
 use Rattle.promises.specs.Events.{Sizes, World, with_state, Call, opening, begin, describe, ending, log_step, clean_step, reading, settling, Step, Lent, fallen}
 use Rattle.promises.specs.Answers.{Reply, refuses, settles, accepts, number_in}
 use Rattle.promises.specs.Claim.{booked_by, is_open, entered, cut_at, both, promised, Run, formatted, called, unfit, cut, cut_unfit, Right, Claim}

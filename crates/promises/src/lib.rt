@@ -1,6 +1,8 @@
 // The page store's state and the answers of its calls, as declared types, with the all-zero state and the number of a refusal. What each
 // call promises stands in specs/, one file to a call; the crash theorem is proved from these promises alone in proofs/Demand3.antt.
 // No call is written here.
+#![tactic(auto)]
+
 ghost use Rattle.std.specs.Prelude.{◌≡◌, ◌≤◌};
 ghost use Rattle.promises.specs.Answers.{number_of, done, replied, answered};
 ghost use Rattle.promises.specs.States.{all_zero_state, set_cleaning};

@@ -12,7 +12,7 @@ use borrow.Author.Tests.{eq-eqb, ne_eqb, lt-ltb, le-leb}
 use Rattle.promises.specs.Updates.{Update}
 use Rattle.promises.proofs.History.Views.{Page, tidy, View, no_view, view_block, view_from, Begins, first, cleans}
 use Rattle.promises.specs.Blocks.{Kind, update, commit, clean, LogBlock}
-use Rattle.promises.specs.DirtyPages.{DirtyPage, at, look_up, apply, apply_all, without}
+use Rattle.promises.specs.DirtyPages.{DirtyPage, look_up, apply, apply_all, without}
 use Rattle.promises.specs.Walk.{Walk, walk_block}
 use Rattle.promises.proofs.History.Stands.{block_stands, all_stand}
 use Rattle.promises.proofs.History.Since.{Same, Sim, sim-step, sim-begin, Below}

@@ -8,7 +8,7 @@ use mathlib.Core.List.{List, [], ◌∷◌, ◌++◌, append_assoc}
 use lib.ListN.{length}
 use borrow.Author.Tests.{eq-eqb, ne_eqb}
 use Rattle.promises.specs.Updates.{Update}
-use Rattle.promises.proofs.History.Views.{Page, Begins, first}
+use Rattle.promises.proofs.History.Views.{Page, Begins}
 use Rattle.promises.specs.Blocks.{Kind, update, commit, clean, LogBlock}
 use Rattle.promises.proofs.History.Machine.{last_keep}
 use Rattle.promises.specs.DirtyPages.{DirtyPage, Found, absent, at, look_up, apply, apply_all, without, keep_from_of}
