@@ -20,7 +20,7 @@ pub loop-i-init : goal.loop-i-init
 loop-i-init c =
     let first = c.args.first.now in
     let read =
-    row_read _ _ first 0 c.row-lanes.result (omega arith) c.requires.0 (λ i h. omega (arith, c.shared_slice_known-1.given i))
+    row_read _ _ first 0 c.row-lanes.result (omega arith) c.requires.0 (λ i h. omega (arith, c.type_inv.first i))
     c.row-lanes.ensures none_read in
     (omega arith, omega arith, subst (λ (l : List ℕ). Read c.row-lanes.result l 32) (sym (append-nil first)) read)
 
@@ -40,7 +40,7 @@ loop-i-preserved c =
     let few : i + 32 ≤ length more = omega arith in
     let read =
     row_read at.lanes (first ++ take i more) row (i + 32) c.row-lanes-in-loop-i.result (omega arith) (row-long more i few)
-    (λ l h. omega (arith, row-byte more i l h, c.shared_slice_known-2-1.given (i + l))) c.row-lanes-in-loop-i.ensures at.invariant.2 in (
+    (λ l h. omega (arith, row-byte more i l h, c.type_inv.more (i + l))) c.row-lanes-in-loop-i.ensures at.invariant.2 in (
       omega arith,
       omega arith,
       rw (append_assoc first (take i more) row, row_next more i) at read,

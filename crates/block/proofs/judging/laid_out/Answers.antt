@@ -16,7 +16,6 @@ pub returns : goal.returns
 unfolding part
 returns c =
     let start = c in
-    let known = c.shared_slice_known-1 in
     let at = c.fields_at in
     let of = c.fields_of in
     let told = c.same_fields-told in
@@ -26,5 +25,5 @@ returns c =
     let padding = c.blank-padding in
     laid_by start.args.slot.now start.args.count start.args.block at.result of.result told.result padding.result
     x.result y.result sums.result.a sums.result.b
-    start.requires.0 (λ i. omega (arith, known.given i)) start.requires.2 start.requires.3 start.requires.1
+    start.requires.0 (λ i. omega (arith, c.type_inv.slot i)) start.requires.2 start.requires.3 start.requires.1
     told.ensures at.ensures of.ensures padding.ensures x.ensures.0 y.ensures.0 sums.ensures.0 sums.ensures.1

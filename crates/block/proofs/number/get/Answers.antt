@@ -1,6 +1,6 @@
 -- `number::get` meets its contract. The loop's invariant: value is the number in the bytes read, the last of them first.
 -- Assumes nothing.
-use Rattle.std.proofs.Common.{◌≡◌, ◌+◌, ◌-◌, ◌<◌, get_or, arith, rules}
+use Rattle.std.proofs.Common.{◌≡◌, ◌+◌, ◌-◌, arith, rules}
 use Rattle.block.proofs.Stores.{get-start, get-turn, below-turn, get-fits}
 use Rattle.block.proofs.number.get.Goals as goal
 
@@ -16,19 +16,12 @@ overflow_mul-value c =
     let i = at-loop.loop-i.i in
     omega (arith, get-fits width i (i - 1) at-loop.loop-i.value 0 (omega arith) (omega arith) (omega arith) at-loop.loop-i.invariant.2 (omega arith))
 
-byte : (c : goal.After-shared_slice_known-1)
-    → get_or c.args.slot.now (c.args.place + (c.loop-i.i - 1)) 0 < 256
-byte c = omega (arith, c.shared_slice_known-1.given (c.args.place + (c.loop-i.i - 1)))
-
-pub overflow_cast-value : goal.overflow_cast-value
-overflow_cast-value c = omega (arith, byte c)
-
 pub overflow_add-value-in-loop-i : goal.overflow_add-value-in-loop-i
 overflow_add-value-in-loop-i c =
     let at-loop = c in
     let width = at-loop.args.width in
     let i = at-loop.loop-i.i in
-    omega (arith, get-fits width i (i - 1) at-loop.loop-i.value _ (omega arith) (omega arith) (omega arith) at-loop.loop-i.invariant.2 (byte c))
+    omega (arith, get-fits width i (i - 1) at-loop.loop-i.value _ (omega arith) (omega arith) (omega arith) at-loop.loop-i.invariant.2 (c.type_inv.slot (c.args.place + (i - 1))).fits)
 
 pub loop-i-preserved : goal.loop-i-preserved
 loop-i-preserved c =
@@ -38,7 +31,7 @@ loop-i-preserved c =
     let value = at-loop.loop-i.value in (
       search rules,
       get-turn args.slot.now args.place args.width i (i - 1) value (omega arith) (omega arith) (omega arith) at-loop.loop-i.invariant.1,
-      below-turn args.width i (i - 1) value _ (omega arith) (omega arith) at-loop.loop-i.invariant.2 (byte c),
+      below-turn args.width i (i - 1) value _ (omega arith) (omega arith) at-loop.loop-i.invariant.2 (c.type_inv.slot (c.args.place + (i - 1))).fits,
     )
 
 pub returns : goal.returns
