@@ -1,5 +1,7 @@
 // Log step in parts: what it is refused with, the store of an update, and the store of a commit, whose updates go to the frames. The
 // call itself stands in the store.
+#![tactic(auto)]
+
 ghost use Rattle.std.specs.Prelude.{◌≡◌, false, not, map, ℕ, ◌≤◌, ◌<◌, length, take, get_or};
 ghost use Rattle.block.specs.Sizes.{sequence_end};
 ghost use Rattle.promises.specs.Blocks.{stored};

@@ -1,5 +1,7 @@
 // The queue once its oldest group is committed: the group leaves it, and a cleaning of a page that the group changed is idle again.
 // It knows the state and none of the lent areas.
+#![tactic(auto)]
+
 ghost use Rattle.std.specs.Prelude.{◌≡◌, ◌≤◌, take};
 ghost use Rattle.promises.specs.LogStep.{shifted};
 ghost use Rattle.queue.specs.Queue.{changes, idle_if, cleaning_left};

@@ -67,12 +67,12 @@ module _ (s : State) (home frames : Bor (List ℕ)) (page number : ℕ) (is : nu
       record { refusal = is; refused = λ n. (place, bytes); place_is = λ z. absurd (some (is ∙ z)); bytes_are = λ z. absurd (some (is ∙ z)) }
 
   -- the part of the area where the page is held
-  read_held : (held : Held) → held_in page 0 s.dirty ≡ held → number ≡ 0 → result.ptr ≡ start_of held home.ptr frames.ptr page
+  read_held : (held : Held) → held_in page 0 s.dirty ≡ held → number ≡ 0 → result.ref_ptr ≡ start_of held home.ref_ptr frames.ref_ptr page
       → result.now ≡ bytes_at held home.now frames.now page → Reads s home frames page number result
   read_held held e zero place bytes = record {
     refusal = is;
     refused = λ n. absurd (n (sym is ∙ zero));
-    place_is = λ z. place ∙ sym (ap (λ (h : Held). start_of h home.ptr frames.ptr page) e);
+    place_is = λ z. place ∙ sym (ap (λ (h : Held). start_of h home.ref_ptr frames.ref_ptr page) e);
     bytes_are = λ z. bytes ∙ sym (held-shows home.now frames.now page 0 s.dirty ∙ ap (λ (h : Held). bytes_at h home.now frames.now page) e);
   }
 

@@ -1,11 +1,11 @@
 -- What the code's tests make of a walk: an update, a clean, a commit and the last test, branch by branch.
 -- Assumes nothing.
 use mathlib.Core.Path.{◌≡◌, sym, ap, ◌∙◌, subst}
-use mathlib.Core.Bool.{Bool, true, false, cond, not}
+use mathlib.Core.Bool.{Bool, true, false, cond}
 use mathlib.Core.List.{List}
 use Prim.Native.Nat.{ℕ, ◌+◌}
 use lib.Dec.{eqb}
-use borrow.Author.Tests.{eq-eqb, ne_eqb, not-true, not-false}
+use borrow.Author.Tests.{eq-eqb, ne_eqb}
 use Rattle.area.proofs.Laws.{never_both}
 use Rattle.promises.specs.Blocks.{update, commit, clean}
 use Rattle.promises.specs.LogStep.{no_update}
@@ -13,13 +13,6 @@ use Rattle.table.specs.declared.Table.{Table}
 use Rattle.table.specs.Table.{AppliesAll, Drops}
 use Rattle.recovery.specs.Log.{updates_from}
 use Rattle.recovery.specs.Walking.{Walk, refused_at, half_at, closed_with, walk_fits, updated, Cleans, Commits, span_fits, tested}
-
--- a test that the code negates
-pub fails : (t test : Bool) → t ≡ test → not t ≡ true → test ≡ false
-fails t test e f = sym e ∙ not-true t f
-
-pub holds : (t test : Bool) → t ≡ test → not t ≡ false → test ≡ true
-holds t test e f = sym e ∙ not-false t f
 
 -- ---- an update
 

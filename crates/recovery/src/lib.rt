@@ -1,5 +1,7 @@
 // Open's reading of a log: every slot judged once, the lowest missing block, a damaged end, and the walk from keep-from to the newest
 // block. It knows blocks through the block crate's contracts, and dirty pages through the table's.
+#![tactic(auto)]
+
 pub mod order;
 
 ghost use Rattle.std.specs.Prelude.{◌≡◌, List, true, false, not, ℕ, ◌+◌, ◌-◌, ◌*◌, ◌≤◌, ◌<◌, max, length};

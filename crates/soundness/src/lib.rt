@@ -1,5 +1,7 @@
 // Whether a state is sound, a desk's or a copy's, for any bits in it, and the sums D, H, W and V over it (docs/CALLS.md). Knows the state
 // alone, not the areas.
+#![tactic(auto)]
+
 pub mod dirty;
 pub mod numbers;
 pub mod queued;

@@ -1,4 +1,6 @@
 // What Log step and Clean step share: the test of the lent lengths, and the one store of 512 bytes that a call makes.
+#![tactic(auto)]
+
 ghost use Rattle.std.specs.Prelude.{◌≡◌, ◌+◌, ◌≤◌, length};
 ghost use Rattle.area.specs.Part.{part, splice};
 ghost use Rattle.block.specs.Sizes.{block_size, new_bytes_most};

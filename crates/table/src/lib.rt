@@ -1,5 +1,7 @@
 // The dirty pages in their frames: a committed update put into its page's frame, and a page dropped once its clean block is in the
 // log. They are kept in place: see seats. It knows home and frames as lent bytes, and nothing of the log.
+#![tactic(auto)]
+
 pub mod seats;
 
 use promises::Dirty;

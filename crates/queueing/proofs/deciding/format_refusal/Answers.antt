@@ -1,0 +1,14 @@
+-- `deciding::format_refusal` meets its contract.
+-- Assumes nothing.
+use mathlib.Core.Path.{sym, ap, ◌∙◌}
+use mathlib.Core.Bool.{Bool, cond}
+use Prim.Native.Nat.{ℕ}
+use Rattle.queueing.proofs.Refusals.{log-fits}
+use native.Mathlib.Omega.{arith}
+use Rattle.queueing.proofs.deciding.format_refusal.Goals as goal
+
+pub returns-then-slots-length : goal.returns-then-slots-length
+returns-then-slots-length c = (sym (ap (λ (b : Bool). cond {A = ℕ} b 0 1) (sym (log-fits c.args.length) ∙ c.if-slots-length.true)), omega arith)
+
+pub returns : goal.returns
+returns c = (sym (ap (λ (b : Bool). cond {A = ℕ} b 0 1) (sym (log-fits c.args.length) ∙ c.if-slots-length.false)), omega arith)

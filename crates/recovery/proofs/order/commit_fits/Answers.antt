@@ -1,0 +1,8 @@
+-- `recovery::order::commit_fits` meets its contract: the code's test is the promises' rule.
+-- Assumes nothing.
+use Rattle.promises.specs.Walk.{in_order}
+use Rattle.recovery.proofs.order.commit_fits.Goals as goal
+
+pub returns : goal.returns
+unfolding in_order
+returns c = λ walk size last. rw (size, last)

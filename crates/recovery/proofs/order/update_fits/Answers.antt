@@ -1,0 +1,8 @@
+-- `recovery::order::update_fits` meets its contract: the code's test is the promises' rule.
+-- Assumes nothing.
+use Rattle.promises.specs.Walk.{in_order}
+use Rattle.recovery.proofs.order.update_fits.Goals as goal
+
+pub returns : goal.returns
+unfolding in_order
+returns c = λ walk change size last. rw (size, last)
