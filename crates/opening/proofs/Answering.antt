@@ -17,7 +17,6 @@ use Rattle.promises.specs.Answers.{refuses, settles, open_answered, place_in}
 use Rattle.promises.specs.Contents.{contents_of, dirty_of, grouped}
 use Rattle.promises.specs.States.{free, all_zero_state, empty_state, set_block, set_dirty, set_stored, Fills}
 use Rattle.promises.specs.DirtyPages.{DirtyPage, look_up}
-use Rattle.promises.specs.Newest.{newest}
 use Rattle.promises.specs.Sums.{first_groups, half_starts, smallest}
 use Rattle.promises.specs.Sound.{sound, all_below, dirty_numbers, half_group_sound, mark_sound}
 use Rattle.promises.specs.Walk.{Walk as PaperWalk, Finding, stops, stands, finding}

@@ -1,5 +1,7 @@
 // Open: the lent lengths, then the log, judged and walked over, then the answer. It never writes log, home or staging. The opening of a
 // copy is the same, but it has no staging and keeps a half group.
+#![tactic(auto)]
+
 ghost use Rattle.std.specs.Prelude.{◌≡◌, ℕ, ◌+◌, ◌-◌, ◌*◌, ◌≤◌, ◌<◌, cond, eqb, length, replicate};
 ghost use Rattle.block.specs.Sizes.{block_size, page_size, sequence_end};
 ghost use Rattle.promises.specs.Areas.{slots_in, pages_in, frames_in, page_at};
