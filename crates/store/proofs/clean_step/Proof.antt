@@ -1,4 +1,4 @@
--- `clean_step_lem` meets its contract, Clean step's promise: refused, or the one store that is next.
+-- `clean_step` meets its contract, Clean step's promise: refused, or the one store that is next.
 -- Assumes nothing.
 use mathlib.Core.Path.{◌≡◌, sym, ap, ◌∙◌}
 use mathlib.Core.Logic.{inl, inr, ⊎_elim}
