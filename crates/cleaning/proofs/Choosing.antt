@@ -42,6 +42,10 @@ rank-used entry n small = simp (ne_eqb _ _ n, ne_eqb 65536 entry.page (λ e. ome
 pub more_left : (ds : List Dirty) (i : ℕ) → 0 < length (first_groups (drop i ds)) → i < length ds
 more_left ds i h = either i (length ds) (λ l. l) (λ l. absurd (omega (arith, ap length (firsts-end ds i l))))
 
+-- while pages are left among 32 entries, an entry is
+pub entry-left : (ds : List Dirty) (left i : ℕ) → length ds ≡ 32 → left ≡ length (first_groups (drop i ds)) → 0 < left → i < 32
+entry-left ds left i long is some = let more : i < length ds = more_left ds i (omega arith) in omega arith
+
 -- the count of those that are left, past an entry in use or free
 module _ (ds : List Dirty) (left i : ℕ) (e : left ≡ length (first_groups (drop i ds))) (h : i < length ds) where
   pub left-used : ((get_or ds i free).first ≡ 0 → ⊥) → left - 1 ≡ length (first_groups (drop (i + 1) ds))

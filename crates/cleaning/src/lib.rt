@@ -1,5 +1,7 @@
 // Clean step in parts: what it is refused with, the page that is cleaned, and its three stores: the first half of the page at home, the
 // second half, then the clean block in the log. The call itself, with the state that each store leaves, stands in the store.
+#![tactic(auto)]
+
 ghost use Rattle.std.specs.Prelude.{◌≡◌, true, ◌+◌, ◌*◌, ◌^◌, ◌≤◌, ◌<◌, length, set};
 ghost use Rattle.promises.specs.Areas.{log_length, page_at, first_half, second_half, with_first_half, with_second_half};
 ghost use Rattle.promises.specs.Sums.{dirty_count, first_groups, smallest};

@@ -142,23 +142,6 @@ module _ (bytes : List ℕ) (i j v w : ℕ) (small : Bytes bytes) (order : i < j
   two-kept : (place width : ℕ) → body_size ≤ place → number_at (set (set bytes i v) j w) place width ≡ number_at bytes place width
   two-kept place width h = before (set bytes i v) j w place width (omega arith) ∙ before bytes i v place width (omega arith)
 
-  two-sealed : j - i < 257 → Sealed (set (set bytes i v) j w) → v ≡ get_or bytes i 0
-  two-sealed near t =
-      let front = part bytes 0 body_size in
-      let changed = set (set bytes i v) j w in
-      let k = j - i in
-      let e : j ≡ i + k = omega arith in
-      let old : get_or front i 0 ≡ get_or bytes i 0 = body-byte bytes i (omega arith) in
-      let size : length front ≡ body_size = body-long bytes s in
-      let a : check_a modulus (set (set front i v) j w) ≡ check_a modulus front =
-      ap (check_a modulus) (sym two-body) ∙ same-a changed bytes t s (two-kept 508 2 (omega arith)) in
-      let b : check_b modulus (set (set front i v) j w) ≡ check_b modulus front =
-      ap (check_b modulus) (sym two-body) ∙ same-b changed bytes t s (two-kept 510 2 (omega arith)) in
-      let at-k = ap (λ (n : ℕ). set (set front i v) n w) e in
-      two-changed modulus front i k v w (omega arith) (omega arith) (omega arith) (omega (arith, small i)) hv
-      (ap (check_a modulus) (sym at-k) ∙ a) (ap (check_b modulus) (sym at-k) ∙ b)
-      ∙ old
-
   two-not-zero : all_zero (set (set bytes i v) j w) ≡ true → ⊥
   two-not-zero z =
       let once = set bytes i v in
@@ -174,8 +157,26 @@ pub two_bytes : (slots pages slot : ℕ) (bytes : List ℕ) (block : Block) (i j
     → i < j → j < body_size → j - i < 257 → v < 256 → w < 256 → (v ≡ get_or bytes i 0 → ⊥) → (w ≡ get_or bytes j 0 → ⊥)
     → judged slots pages slot (set (set bytes i v) j w) ≡ Damaged
 two_bytes slots pages slot bytes block i j v w h small order hj near hv hw other-v other-w =
-    let s = sealed slots pages slot bytes block h in
     let changed = set (set bytes i v) j w in
     only-damaged (judged slots pages slot changed)
-    (λ u. two-not-zero bytes i j v w small order hj hv s (unused-zeros slots pages slot changed u))
-    (λ b u. other-v (two-sealed bytes i j v w small order hj hv s near (sealed slots pages slot changed b u)))
+    (λ u. two-not-zero bytes i j v w small order hj hv (sealed slots pages slot bytes block h) (unused-zeros slots pages slot changed u))
+    (λ b u. other-v (two-sealed (sealed slots pages slot bytes block h) (sealed slots pages slot changed b u)))
+  where
+    two-sealed : Sealed bytes → Sealed (set (set bytes i v) j w) → v ≡ get_or bytes i 0
+    two-sealed s t =
+        let front = part bytes 0 body_size in
+        let changed = set (set bytes i v) j w in
+        let k = j - i in
+        let e : j ≡ i + k = omega arith in
+        let old : get_or front i 0 ≡ get_or bytes i 0 = body-byte bytes i (omega arith) in
+        let size : length front ≡ body_size = body-long bytes s in
+        let body = two-body bytes i j v w small order hj hv s in
+        let kept = two-kept bytes i j v w small order hj hv s in
+        let a : check_a modulus (set (set front i v) j w) ≡ check_a modulus front =
+        ap (check_a modulus) (sym body) ∙ same-a changed bytes t s (kept 508 2 (omega arith)) in
+        let b : check_b modulus (set (set front i v) j w) ≡ check_b modulus front =
+        ap (check_b modulus) (sym body) ∙ same-b changed bytes t s (kept 510 2 (omega arith)) in
+        let at-k = ap (λ (n : ℕ). set (set front i v) n w) e in
+        two-changed modulus front i k v w (omega arith) (omega arith) (omega arith) (omega (arith, small i)) hv
+        (ap (check_a modulus) (sym at-k) ∙ a) (ap (check_b modulus) (sym at-k) ∙ b)
+        ∙ old

@@ -1,5 +1,7 @@
 // Open's walk over a log's blocks without bytes: a dirty page is its number and its first group, an update is its page. No home and no
 // frames are needed for it. It knows a block's fields, the order of blocks from recovery, and nothing of a log.
+#![tactic(auto)]
+
 ghost use Rattle.std.specs.Prelude.{◌≡◌, [], ◌∷◌, ◌++◌, ◌+◌, ◌≤◌, ◌<◌};
 ghost use Rattle.block.specs.Sizes.{sequence_end, group_most};
 ghost use Rattle.block.specs.declared.Kind.TheVariants.{Update, Commit, Clean};

@@ -1,5 +1,7 @@
 // The script language of `replay`, as far as it needs no store: a line's command, the bytes that commands ask for, and the digest. A
 // line is read byte by byte, so that a line of any length is read in no room of its own.
+#![tactic(auto)]
+
 mod filling;
 mod parsing;
 
