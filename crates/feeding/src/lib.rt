@@ -1,5 +1,7 @@
 // What comes of a block that is fed to a copy, before anything is changed: how its bytes are judged, whether the copy's own log lacks an update
 // of its half group, and the tests of Open's walk, of keep-from and of H + D, over where the copy stands.
+#![tactic(auto)]
+
 ghost use Rattle.std.specs.Prelude.{◌≡◌, true, cond, ◌&&◌, List, ◌++◌, ℕ, ◌+◌, ◌-◌, ◌*◌, ◌≤◌, ◌<◌, length, eqb, leb};
 ghost use Rattle.block.specs.Sizes.{block_size, sequence_end, group_most};
 ghost use Rattle.block.specs.Legal.{legal, slot_of};

@@ -1,0 +1,14 @@
+-- `feeding::has_update` meets its contract.
+-- Assumes nothing.
+use lib.ListN.{length}
+use Rattle.recovery.proofs.Scanning.{slot-below}
+use Rattle.feeding.proofs.Testing.{update-at}
+use Rattle.feeding.proofs.has_update.Goals as goal
+
+pub slot_bytes-bytes-requires : goal.slot_bytes-bytes-requires
+slot_bytes-bytes-requires c = slot-below (length c.args.log.now) c.args.sequence c.requires
+
+pub returns : goal.returns
+returns c =
+    let a = c.args in
+    update-at _ _ _ a.sequence a.index a.log.now c.slot_bytes-bytes.result.now c.judge-judged.result _ c.slot_bytes-bytes.ensures.0 c.judge-judged.ensures (c.is_update.ensures c.slot_bytes-bytes.result.now)
