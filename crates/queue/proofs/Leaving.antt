@@ -159,7 +159,7 @@ unchanged staging page (x ∷ xs) h = go (unchanged staging page xs) (eqb page x
 pub cleaning-left-is : (staging : List ℕ) (size : ℕ) (staged : List Staged) (cleaning : Cleaning)
     → cleaning_left (take size staged) cleaning ≡ cleaning_after (take size (map (waiting staging) staged)) cleaning
 unfolding cleaning_left cleaning_after
-cleaning-left-is staging size staged Idle = refl
+cleaning-left-is _ _ _ Idle = refl
 cleaning-left-is staging size staged (First page) =
     idle-same staging page (take size staged) (First page)
     ∙ ap (λ (us : List Update). idle_unless_none (of_page page us) (First page)) (sym (map-take (waiting staging) size staged))

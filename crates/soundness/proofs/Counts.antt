@@ -82,9 +82,6 @@ range-of s h = let g = simp tests at h in omega arith
 pub of_range : (s : State) → InRange s → in_range s ≡ true
 of_range s r = simp tests (omega arith)
 
-pub queued-range : (s : State) → in_range s ≡ true → s.queued ≤ 32
-queued-range s h = (range-of s h).queued
-
 -- sums can be added up where the numbers are in range
 pub addable : (s : State) → in_range s ≡ true → Addable s
 addable s h = let r = range-of s h in record { queued = r.queued; reserved = r.reserved; next = r.next; stored = r.stored }

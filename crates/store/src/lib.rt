@@ -17,6 +17,8 @@
 // Each call's whole promise is the file of promises/specs that its comment names.
 //
 // A call changes a copy of its state and hands that back: a state of 880 bytes that came back from the crates below would be copied by each.
+#![tactic(auto)]
+
 ghost use Rattle.promises.specs.Format.{Formats};
 ghost use Rattle.promises.specs.Open.{Opens};
 ghost use Rattle.promises.specs.Begin.{Begins};
