@@ -2,15 +2,14 @@
 -- Assumes nothing.
 use mathlib.Core.Path.{◌≡◌, refl, sym, ap, subst, ◌∙◌}
 use mathlib.Core.List.{List, [], ◌++◌, append_assoc}
-use Prim.Native.Nat.{ℕ, ◌+◌, ◌≤◌}
+use Prim.Native.Nat.{ℕ, ◌+◌, ◌^◌, ◌≤◌, ◌<◌}
 use native.Mathlib.Omega.{arith}
 use lib.ListN.{length, take, drop, length-append, length-take, length-drop, take-append-drop}
 use lib.Seq.{drop-append-le}
 use Rattle.area.specs.Part.{part, splice}
 use Rattle.area.proofs.Parts.{part-all, length_part, length-splice, splice-splice}
-use Rattle.io.specs.Counts.{IsPrefixLen}
-use Rattle.io.specs.Digits as kit
-use Rattle.io.specs.Digits.{IsDigitCount}
+use Rattle.std.specs.Fmt as kit
+use Rattle.std.proofs.lemmas.Fmt.{length-decimal-le}
 use Rattle.lines.specs.Text.{decimal, Adds, Shows}
 use Rattle.lines.proofs.Decimal.{spelled}
 
@@ -86,11 +85,12 @@ adds-lent area at count text part' area' end fits s e =
     }
 
 -- the digits of a number, as the kit wrote them, are added
-pub adds-number : (area : List ℕ) (at : ℕ) (digits area' : List ℕ) (end count number : ℕ) → count ≤ 20 → IsPrefixLen count digits → IsDigitCount 10 1 number count
-    → take count digits ≡ kit.last_digits 10 count number → Adds area at (take count digits) area' end → Adds area at (decimal number) area' end × (end ≤ at + 20)
-adds-number area at digits area' end count number few counts fewest e a =
-    let same : take count digits ≡ decimal number = e ∙ spelled 19 count number few fewest in
-    (subst (λ (l : List ℕ). Adds area at l area' end) same a, omega (arith, counts.1, a.end_is))
+pub adds-number : (area : List ℕ) (at : ℕ) (digits area' : List ℕ) (end number : ℕ) → number < 2 ^ 64 → digits ≡ kit.decimal number
+    → Adds area at digits area' end → Adds area at (decimal number) area' end × (end ≤ at + 20)
+adds-number area at digits area' end number small e a = (
+  subst (λ (l : List ℕ). Adds area at l area' end) (e ∙ spelled 19 number (omega arith) small) a,
+  omega (arith, length-decimal-le 20 number (omega arith) (omega arith) small, ap length e, a.end_is),
+)
 
 -- the text that an enum's variant stands for
 pub adds-as : {A : Type 0} (text : A → List ℕ) (area : List ℕ) (at : ℕ) (x y : A) (area' : List ℕ) (end : ℕ) → x ≡ y → Adds area at (text y) area' end → Adds area at (text x) area' end

@@ -1,4 +1,6 @@
 // The lines of a listing, each written into a lent slice. It knows a block's fields, and nothing of a log.
+#![tactic(auto)]
+
 ghost use Rattle.std.specs.Prelude.{◌+◌, ◌≤◌, length};
 ghost use Rattle.lines.specs.Text.{decimal, newline, field as field_text, line_most, first_line, kind_text, block_line, refused_line, Adds, Shows};
 
@@ -25,8 +27,8 @@ fn add_number(out: &mut [u8], at: usize, number: u64) -> usize
     ensures { Adds out.old at (decimal number) out.new result × (result ≤ at + 20) }
 {
     let mut digits = [0; DIGITS];
-    let count = io::decimal(number, &mut digits);
-    add_word(out, at, &digits[..count])
+    let start = itoa::write_digits(number, &mut digits, DIGITS);
+    add_word(out, at, &digits[start..])
 }
 
 // Adds a word and a number.
