@@ -1,6 +1,8 @@
 // A broker's read-only copy of a desk: its opening and its feed. A copy has its own log, home and frames of the desk's sizes, is made from the
 // desk's log and home, byte for byte, and is fed the desk's blocks. Read and Settled are the store's own calls, with the copy's state. What the
 // caller lends, the refusals and all words: docs/CALLS.md.
+#![tactic(auto)]
+
 ghost use Rattle.std.specs.Prelude.{◌≡◌, true, ◌+◌, ◌≤◌, ◌<◌, length};
 ghost use Rattle.block.specs.Sizes.{block_size, sequence_end};
 ghost use Rattle.block.specs.Legal.{slot_of};
