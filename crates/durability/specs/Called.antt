@@ -2,7 +2,7 @@
 -- `ensures`: the lifetimes, the arguments at entry, the result, and the arguments at exit.
 -- Assumes nothing.
 use contract.Lifetimes.{Lfts}
-use Rattle.std.specs.Borrow.{Bor}
+use Rattle.std.specs.Borrow.{Bor, MutBor}
 use Rattle.std.specs.Prelude.{◌≡◌, ℕ, List}
 use Rattle.promises.specs.declared.Answer.{Answer}
 use Rattle.promises.specs.declared.Standing.{Standing}
@@ -25,8 +25,8 @@ use Rattle.store.proofs.settled.Reads as settled-entry
 
 pub record Formatted (log : List ℕ) (answer : Answer) (log' : List ℕ) : Type 0 where
   pub κs : Lfts 1
-  pub lent : Bor (List ℕ)
-  pub left : Bor (List ℕ)
+  pub lent : MutBor (List ℕ)
+  pub left : MutBor (List ℕ)
   pub lent_is : lent.now ≡ log
   pub left_is : left.now ≡ log'
   pub learnt : format-entry.Learnt κs (lent, tt) answer (left, tt)
@@ -35,8 +35,8 @@ pub record Opened (world : World) (frames staging : List ℕ) (reply : Reply) (w
   pub κs : Lfts 4
   pub log : Bor (List ℕ)
   pub home : Bor (List ℕ)
-  pub lent_frames : Bor (List ℕ)
-  pub left_frames : Bor (List ℕ)
+  pub lent_frames : MutBor (List ℕ)
+  pub left_frames : MutBor (List ℕ)
   pub lent_staging : Bor (List ℕ)
   pub result : OpenOutcome
   pub log_is : log.now ≡ world.log
@@ -56,8 +56,8 @@ pub record Begun (world : World) (u : ℕ) (reply : Reply) (world' : World) : Ty
 
 pub record Described (world : World) (update : Update) (reply : Reply) (world' : World) : Type 0 where
   pub κs : Lfts 2
-  pub staging : Bor (List ℕ)
-  pub staging' : Bor (List ℕ)
+  pub staging : MutBor (List ℕ)
+  pub staging' : MutBor (List ℕ)
   pub bytes : Bor (List ℕ)
   pub result : Outcome
   pub staging_is : staging.now ≡ world.staging
@@ -76,11 +76,11 @@ pub record Ended (world : World) (reply : Reply) (world' : World) : Type 0 where
 
 pub record Logged (world : World) (reply : Reply) (world' : World) : Type 0 where
   pub κs : Lfts 4
-  pub log : Bor (List ℕ)
-  pub log' : Bor (List ℕ)
+  pub log : MutBor (List ℕ)
+  pub log' : MutBor (List ℕ)
   pub home : Bor (List ℕ)
-  pub frames : Bor (List ℕ)
-  pub frames' : Bor (List ℕ)
+  pub frames : MutBor (List ℕ)
+  pub frames' : MutBor (List ℕ)
   pub staging : Bor (List ℕ)
   pub result : LogOutcome
   pub log_is : log.now ≡ world.log
@@ -93,10 +93,10 @@ pub record Logged (world : World) (reply : Reply) (world' : World) : Type 0 wher
 
 pub record Cleaned (world : World) (reply : Reply) (world' : World) : Type 0 where
   pub κs : Lfts 3
-  pub log : Bor (List ℕ)
-  pub log' : Bor (List ℕ)
-  pub home : Bor (List ℕ)
-  pub home' : Bor (List ℕ)
+  pub log : MutBor (List ℕ)
+  pub log' : MutBor (List ℕ)
+  pub home : MutBor (List ℕ)
+  pub home' : MutBor (List ℕ)
   pub frames : Bor (List ℕ)
   pub result : Outcome
   pub log_is : log.now ≡ world.log
@@ -110,8 +110,8 @@ pub record Shown (world : World) (page : ℕ) (reply : Reply) (world' : World) :
   pub κs : Lfts 2
   pub home : Bor (List ℕ)
   pub frames : Bor (List ℕ)
-  pub refusal : Bor ℕ
-  pub refusal' : Bor ℕ
+  pub refusal : MutBor ℕ
+  pub refusal' : MutBor ℕ
   pub result : Bor (List ℕ)
   pub home_is : home.now ≡ world.home
   pub frames_are : frames.now ≡ world.frames

@@ -1,7 +1,7 @@
 -- A call of a broker's copy as a step: what a caller learns of it from its contract, as in Called. Read and Settled are the desk's own.
 -- Assumes nothing.
 use contract.Lifetimes.{Lfts}
-use Rattle.std.specs.Borrow.{Bor}
+use Rattle.std.specs.Borrow.{Bor, MutBor}
 use Rattle.std.specs.Prelude.{◌≡◌, ℕ, List, []}
 use Rattle.promises.specs.declared.FeedOutcome.{FeedOutcome}
 use Rattle.promises.specs.declared.OpenOutcome.{OpenOutcome}
@@ -16,8 +16,8 @@ pub record CopyOpened (world : World) (frames : List ℕ) (reply : Reply) (world
   pub κs : Lfts 3
   pub log : Bor (List ℕ)
   pub home : Bor (List ℕ)
-  pub lent_frames : Bor (List ℕ)
-  pub left_frames : Bor (List ℕ)
+  pub lent_frames : MutBor (List ℕ)
+  pub left_frames : MutBor (List ℕ)
   pub result : OpenOutcome
   pub log_is : log.now ≡ world.log
   pub home_is : home.now ≡ world.home
@@ -28,12 +28,12 @@ pub record CopyOpened (world : World) (frames : List ℕ) (reply : Reply) (world
 
 pub record Fed (world : World) (bytes : List ℕ) (reply : Reply) (world' : World) : Type 0 where
   pub κs : Lfts 4
-  pub log : Bor (List ℕ)
-  pub log' : Bor (List ℕ)
-  pub home : Bor (List ℕ)
-  pub home' : Bor (List ℕ)
-  pub frames : Bor (List ℕ)
-  pub frames' : Bor (List ℕ)
+  pub log : MutBor (List ℕ)
+  pub log' : MutBor (List ℕ)
+  pub home : MutBor (List ℕ)
+  pub home' : MutBor (List ℕ)
+  pub frames : MutBor (List ℕ)
+  pub frames' : MutBor (List ℕ)
   pub block : Bor (List ℕ)
   pub result : FeedOutcome
   pub log_is : log.now ≡ world.log
