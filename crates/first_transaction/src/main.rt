@@ -1,5 +1,7 @@
 // A first transaction: a coupon date on page 0 and its accrual on page 1 are written together. The power is cut after none, one, two and all
 // of its blocks, and each time both pages are as they were, or both are changed. (A program looks at each answer; here only Read's is.)
+#![tactic(auto)]
+
 use block::Block;
 use promises::State;
 
