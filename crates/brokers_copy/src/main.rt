@@ -1,5 +1,7 @@
 // A desk and a broker's copy of it, both in memory. The desk's blocks are fed to the copy one by one, and the power of either is cut on the
 // way. After each event a line shows the same two pages on both sides: the coupon date on page 0 and its accrual on page 1.
+#![tactic(auto)]
+
 use block::Block;
 use promises::State;
 

@@ -1,5 +1,7 @@
 // What a log says, for a reader: it is examined as Open would with 4,096 pages and 32 frames, and its lines are written one by one, or all
 // as one text. No home, no frames and no staging are needed.
+#![tactic(auto)]
+
 ghost use Rattle.std.specs.Prelude.{◌≡◌, ℕ, ◌+◌, ◌-◌, ◌*◌, ◌≤◌, ◌<◌, length, get_or, []};
 ghost use Rattle.io.specs.Counts.{IsPrefixLen};
 ghost use Rattle.block.specs.Sizes.{block_size, sequence_end};
@@ -153,8 +155,8 @@ pub fn line(log: &[u8], examined: Examined, index: usize, out: &mut [u8]) -> usi
     lines::block_line(out, block)
 }
 
-// Writes all lines of a log, one behind the other, and answers how many bytes they are. That r counts bytes of out follows from the text: it
-// is stated for `&out[..r]`.
+// Writes all lines of a log, one behind the other, and answers how many bytes they are. That the result counts bytes of out follows from the
+// text: it is stated for `&out[..result]`.
 pub fn text(log: &[u8], out: &mut [u8]) -> usize
     requires { text_most ≤ length out.old }
     ensures shows { Shows (text_of log.now) out.old out.new result }

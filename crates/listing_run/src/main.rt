@@ -1,4 +1,6 @@
 // Logs made in memory block by block, and the lines of each.
+#![tactic(auto)]
+
 ghost use Rattle.std.specs.Prelude.{◌≡◌, ◌+◌, ◌≤◌, length};
 ghost use Rattle.block.specs.Sizes.{block_size, new_bytes_most, group_most};
 

@@ -1,4 +1,6 @@
 // Shows the log in file log.img of the working folder: the line of each of its blocks, or why it is refused.
+#![tactic(auto)]
+
 ghost use Rattle.io.specs.Counts.{IsPrefixLen};
 
 use block::Block;

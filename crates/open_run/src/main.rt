@@ -1,5 +1,7 @@
 // Open on logs made by hand: worked cases 5, 6, 7 and 12, each refusal with its place, damaged ends, and a log that wraps. N is
 // 8, P 4, F 2 unless the line says otherwise; home's bytes are 5, and frames hold 9 before each opening. One line for each.
+#![tactic(auto)]
+
 ghost use Rattle.std.specs.Prelude.{◌≡◌, ◌≤◌, ◌<◌, length};
 
 use block::Block;

@@ -1,4 +1,6 @@
 // Drives Format, Begin, Describe, End, Settled and Read on areas and states of its own and prints what comes out, one line a call.
+#![tactic(auto)]
+
 use promises::{Answer, Cleaning, Dirty, Ended, Refusal, Standing, State};
 
 // Standard output.

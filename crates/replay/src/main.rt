@@ -1,5 +1,7 @@
 // Reads a script on standard input, drives the store's calls over areas of its own, and prints one line for each line read. What a
 // line means is the crate `script`'s; here are the areas and the calls.
+#![tactic(auto)]
+
 mod desk;
 mod lines;
 mod saying;

@@ -1,5 +1,7 @@
 // Drives Log step and Clean step on areas and states of its own, and prints one line a call: the answer, then what the slot holds
 // that the call stored, or the first bytes of the page's halves at home. 8 slots, 4 pages and 2 frames.
+#![tactic(auto)]
+
 use block::{Block, Judged, Kind};
 use promises::{Answer, Cleaning, Dirty, Logged, Staged, State};
 

@@ -1,6 +1,8 @@
 // Begin for a feed that may have to wait: where Begin is refused as full, what waits is stored, what is dirty is cleaned, and Begin is
 // called again. With nothing open and sequences left it is then accepted, after W Log steps and at most 3 F Clean steps. Built on the
 // store's calls alone, as a program of the desk would be.
+#![tactic(auto)]
+
 ghost use Rattle.std.specs.Prelude.{◌≡◌};
 ghost use Rattle.promises.specs.Answers.{number_in, answered, log_answered};
 ghost use Rattle.waiting.specs.Waiting.{world_of, LogsAll, CleansAll, BeginsWaiting};

@@ -1,6 +1,8 @@
 // Begin that waits, run, and printed with how many Log steps and Clean steps it took. First the longest waits: for each F from 1 to 32 a
 // store of F frames in which F pages wait for their commits, so that each frame gets a dirty page and the same Begin is accepted after
 // 3 F Clean steps. Then Begins that wait for less, and refusals.
+#![tactic(auto)]
+
 use block::Block;
 use promises::{Answer, State};
 

@@ -1,5 +1,7 @@
 // Worked blocks (01, "Checked by hand"), for a log of 8 slots and a home of 4 pages. A line for each slot: the case's number, the four
 // check bytes in hex, and what judging says of the slot. For case 8 the offset, the length and whether they are legal.
+#![tactic(auto)]
+
 ghost use Rattle.std.specs.Prelude.{◌≤◌, ◌<◌, length};
 ghost use Rattle.block.specs.Sizes.{new_bytes_most};
 

@@ -1,5 +1,7 @@
 // The store's side of the benchmark, for a C program to call: bench/workloads.h says call by call what each workload does. Each is proved
 // to be safe and to end on any areas. It promises no more: the benchmark holds its answers, and the log and home that it leaves, to C's.
+#![tactic(auto)]
+
 mod calling;
 mod commits;
 mod numbers;

@@ -1,4 +1,4 @@
--- `opening::kept_from` meets its contract: by its test.
+-- `opening::kept_from_lem` meets its contract: by its test.
 -- Assumes nothing.
 use Rattle.opening.proofs.Keeping.{from-none, from-half}
 use Rattle.opening.proofs.kept_from.Goals as goal

@@ -1,4 +1,4 @@
--- `recovery::span_fits` meets its contract: the sums of the seats.
+-- `recovery::span_fits_lem` meets its contract: the sums of the seats.
 -- Assumes nothing.
 use mathlib.Core.Path.{ap, ◌∙◌}
 use Prim.Native.Nat.{ℕ, ◌+◌, ◌-◌}

@@ -1,0 +1,16 @@
+-- `runs` is safe: every call keeps the lengths of what it is lent.
+-- Assumes nothing.
+use native.Mathlib.Omega.{arith}
+use Rattle.waiting_run.proofs.runs.Goals as goal
+
+pub shape_of-log : goal.shape_of-log
+shape_of-log c = omega (arith, c.at_once.auto, c.all_under_way.auto, c.wrong_length.auto, c.used_up.auto, c.used_up-2.auto)
+
+pub shape_of-home : goal.shape_of-home
+shape_of-home c = omega (arith, c.at_once.auto, c.all_under_way.auto, c.wrong_length.auto, c.used_up.auto, c.used_up-2.auto)
+
+pub shape_of-frames : goal.shape_of-frames
+shape_of-frames c = omega (arith, c.at_once.auto, c.all_under_way.auto, c.wrong_length.auto, c.used_up.auto, c.used_up-2.auto)
+
+pub shape_of-staging : goal.shape_of-staging
+shape_of-staging c = omega (arith, c.all_under_way.auto, c.wrong_length.auto, c.used_up.auto, c.used_up-2.auto)
