@@ -34,11 +34,11 @@ use Rattle.promises.specs.Sums.{first_groups}
 use Rattle.promises.specs.Sound.{sound_as, dirty_numbers}
 use Rattle.promises.specs.Answers.{replied}
 use Rattle.promises.specs.Format.{Formats}
-use Rattle.promises.specs.Open.{open_finding, Opens, OpenStands}
+use Rattle.promises.specs.Open.{open_finding, Opens}
 use Rattle.promises.specs.Begin.{begin_refusal, Begins}
 use Rattle.promises.specs.Describe.{describe_refusal, Describes}
 use Rattle.promises.specs.End.{end_refusal, Ends}
-use Rattle.promises.specs.LogStep.{log_refusal, update_block, commit_block, dirty_after, cleaning_after, shifted, UpdateStep, CommitStep, LogSteps}
+use Rattle.promises.specs.LogStep.{log_refusal, update_block, commit_block, dirty_after, cleaning_after, shifted, UpdateStep, LogSteps}
 use Rattle.promises.specs.CleanStep.{NoLater, clean_refusal, clean_store, CleanStep, CleanSteps}
 use Rattle.promises.specs.Read.{read_refusal, held_in, Reads}
 use Rattle.promises.specs.Settled.{settled_refusal, Settles}
@@ -149,18 +149,6 @@ fresh : open_finding log₀ home 2048 944 ≡ stands 1 (start_with 0)
 unfolding open_finding finding gathered all_unused newest walk_from keep_from_of
 fresh = ap (λ (slots : List Slot). walk_gathered 8 2 (page_at home) slots (gathered 8 slots)) (blank-from 8 4 4096 0 8 (omega arith))
 
-open_step : OpenStands 1 (start_with 0) log₀ home frames (record { state = awoken; answer = OpenSettled 0 }) frames
-unfolding sound_as first_groups dirty_numbers dirty_from grouped
-open_step = record {
-  answer_is = refl;
-  frames_long = refl;
-  fills = none_filled;
-  state_is = refl;
-  stays_sound = refl;
-  contents_are = λ x. refl;
-  dirty_are = λ p. ap (look_up p) (none-dirty frames);
-}
-
 found-entry : shown (look_up 0 (entry ∷ [])) (page_at home 0) ≡ entry.bytes
 unfolding look_up
 found-entry = refl
@@ -174,7 +162,16 @@ unfolding replied
 format-met = record { answer_is = refl; refused = λ n. absurd (n refl); accepted = λ e. refl }
 
 pub open-met : Opens log₀ home frames staging (record { state = awoken; answer = OpenSettled 0 }) frames
-open-met = open-accepts log₀ home frames staging (record { state = awoken; answer = OpenSettled 0 }) frames 1 (start_with 0) fresh open_step
+unfolding sound_as first_groups dirty_numbers dirty_from grouped
+open-met = open-accepts log₀ home frames staging (record { state = awoken; answer = OpenSettled 0 }) frames 1 (start_with 0) fresh (record {
+  answer_is = refl;
+  frames_long = refl;
+  fills = none_filled;
+  state_is = refl;
+  stays_sound = refl;
+  contents_are = λ x. refl;
+  dirty_are = λ p. ap (look_up p) (none-dirty frames);
+})
 
 pub begin-met : Begins awoken 1 (record { state = opened; answer = Done })
 unfolding replied begin_refusal sound_as first_groups dirty_numbers dirty_from grouped
@@ -216,29 +213,25 @@ update-met =
 abbrev log₂ : List ℕ → List ℕ
 log₂ log = stored 8 log 2 (commit_block half group (dirty_after half group home frames))
 
-commit-step : (log : List ℕ) → CommitStep half group [] log home frames staging' (record { state = dirty; answer = LogSettled 1 }) (log₂ log) frames'
-unfolding sound_as first_groups dirty_numbers dirty_from grouped part cleaning_after shifted apply_all apply put
-commit-step log = record {
-  answer_is = refl;
-  log_is = refl;
-  frames_long = refl;
-  fills = one-filled;
-  state_is = refl;
-  stays_sound = refl;
-  contents_are = refl;
-  dirty_are = λ p. ap (look_up p) (one-dirty ∙ sym (ap (apply_all 1 (page_at home) group) (none-dirty frames) ∙ applied));
-}
-
 half-accepted : (n : ℕ) → n ≡ 4096 → log_refusal half n 4096 2048 944 ≡ 0
 unfolding log_refusal sound_as first_groups dirty_numbers
 half-accepted n e = rw e
 
 pub commit-met : (log : List ℕ) → length log ≡ 4096
     → LogSteps half log home frames staging' (record { state = dirty; answer = LogSettled 1 }) (log₂ log) frames'
-unfolding grouped part
+unfolding sound_as first_groups dirty_numbers dirty_from grouped part cleaning_after shifted apply_all apply put
 commit-met log e =
     log-commits half log home frames staging' (record { state = dirty; answer = LogSettled 1 }) (log₂ log) frames'
-    (half-accepted (length log) e) group [] refl (omega arith) (commit-step log)
+    (half-accepted (length log) e) group [] refl (omega arith) (record {
+      answer_is = refl;
+      log_is = refl;
+      frames_long = refl;
+      fills = one-filled;
+      state_is = refl;
+      stays_sound = refl;
+      contents_are = refl;
+      dirty_are = λ p. ap (look_up p) (one-dirty ∙ sym (ap (apply_all 1 (page_at home) group) (none-dirty frames) ∙ applied));
+    })
 
 pub settled-met : Settles dirty 1 Yes
 unfolding replied settled_refusal sound_as first_groups dirty_numbers
