@@ -248,21 +248,6 @@ at_second = state 3 1 1 0 0 0 0 0 0 (Second 0)
 abbrev at_third : State
 at_third = state 3 1 1 0 0 0 0 0 0 (Third 0)
 
-first_step : (log : List ℕ) → CleanStep dirty log home frames' (record { state = at_second; answer = Done }) log (splice home 0 512 (42 ∷ replicate 511 0))
-unfolding clean_store sound_as first_groups dirty_numbers dirty_from grouped part look_up
-first_step log = record {
-  page = 0;
-  entry = entry;
-  found = refl;
-  takes = λ p x e. only p entry x (sym (ap (look_up p) one-dirty) ∙ e);
-  stays_sound = refl;
-  log_is = refl;
-  home_is = refl;
-  state_is = refl;
-  contents_are = λ x. refl;
-  dirty_are = λ p. refl;
-}
-
 second-step : (log pages : List ℕ)
     → CleanStep at_second log pages frames' (record { state = at_third; answer = Done }) log (splice pages 512 512 (replicate 512 0))
 unfolding clean_store sound_as first_groups dirty_numbers dirty_from grouped part look_up
@@ -304,9 +289,21 @@ clean-accepted n m e f = rw (e, f) (refl, refl, refl)
 
 pub first-met : (log : List ℕ) → length log ≡ 4096
     → CleanSteps dirty log home frames' (record { state = at_second; answer = Done }) log (splice home 0 512 (42 ∷ replicate 511 0))
+unfolding clean_store sound_as first_groups dirty_numbers dirty_from grouped part look_up
 first-met log e =
     clean-accepts dirty log home frames' (record { state = at_second; answer = Done }) log (splice home 0 512 (42 ∷ replicate 511 0))
-    (clean-accepted (length log) 4096 e refl).0 refl (first_step log)
+    (clean-accepted (length log) 4096 e refl).0 refl (record {
+      page = 0;
+      entry = entry;
+      found = refl;
+      takes = λ p x e. only p entry x (sym (ap (look_up p) one-dirty) ∙ e);
+      stays_sound = refl;
+      log_is = refl;
+      home_is = refl;
+      state_is = refl;
+      contents_are = λ x. refl;
+      dirty_are = λ p. refl;
+    })
 
 pub second-met : (log pages : List ℕ) → length log ≡ 4096 → length pages ≡ 4096
     → CleanSteps at_second log pages frames' (record { state = at_third; answer = Done }) log (splice pages 512 512 (replicate 512 0))
