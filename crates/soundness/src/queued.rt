@@ -1,5 +1,4 @@
-// The queue of a state: its groups' sizes, and the updates that wait in staging. (`rt try` takes every crate as source, so that a module may
-// not have the name of a crate such as `queue`.)
+// The queue of a state: its groups' sizes, and the updates that wait in staging.
 ghost use Rattle.std.specs.Prelude.{◌≡◌, ◌≤◌, length, take, get_or};
 ghost use Rattle.promises.specs.Contents.{total};
 ghost use Rattle.promises.specs.Sound.{areas_of, sizes_legal};

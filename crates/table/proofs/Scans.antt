@@ -16,7 +16,7 @@ use Rattle.promises.specs.Contents.{unless}
 use Rattle.promises.specs.Sums.{first_groups, smallest}
 use Rattle.promises.specs.States.{free}
 
--- the length of an array of structs in a struct, as owning the struct tells it: `search (needs, length-mapped)` finds the premise
+-- the length of an array of structs in a struct, as owning the struct tells it: `search (rules, length-mapped)` finds the premise
 pub length-mapped : (X Y : Type 0) (f : X → Y) (l : List X) (n : ℕ) → length (map f l) ≡ n → length l ≡ n
 length-mapped X Y f l n h = sym (length-map l f) ∙ h
 
