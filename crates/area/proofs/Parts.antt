@@ -6,16 +6,11 @@ use mathlib.Core.List.{List, [], ◌∷◌, ◌++◌, append_assoc}
 use Prim.Native.Nat.{ℕ, zero, suc, ◌+◌, ◌-◌, ◌*◌, ◌≤◌}
 use native.Mathlib.Omega.{arith}
 use native.Mathlib.Nat.{add-sub_cancel_left, mul-le-mul_right}
-use lib.ListN.{length, take, drop, replicate, length-append, length-take, length-drop, take-append-drop}
+use lib.ListN.{length, take, drop, length-append, length-take, length-drop, take-append-drop}
 use lib.Seq.{take_at, drop_at, take_all, take-take, length-take-le, drop-drop, drop-append-le, take-append-le, take-add}
 use borrow.Rule.Slice.PartMut.{put_mid}
 use Rattle.area.proofs.Laws.{either}
 use Rattle.area.specs.Part.{part, splice}
-
--- one more of the same element
-pub replicate-snoc : (n a : ℕ) → replicate n a ++ (a ∷ []) ≡ replicate (suc n) a
-replicate-snoc zero a = refl
-replicate-snoc (suc n) a = ap (λ (l : List ℕ). a ∷ l) (replicate-snoc n a)
 
 -- ---- what a loan leaves
 

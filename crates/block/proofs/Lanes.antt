@@ -1,7 +1,9 @@
 -- The two sums from lanes: a row added lane by lane, and what the lanes then tell of all bytes read.
 -- Assumes nothing.
-use Rattle.std.proofs.Common.{◌≡◌, ℕ, suc, ◌+◌, ◌-◌, ◌*◌, ◌%◌, ◌<◌, ◌≤◌, List, [], ◌++◌, length, get_or, take, drop, set, replicate, sym, refl, ap, ◌∙◌, suc-mul, mul-add, arith, length-drop, length-take, get_or-drop, get_or-set_other, get_or-take, get_or-set_same, take-add}
-use native.Mathlib.Nat.{add-mod, mod-mod, add-sub_cancel_left}
+use Rattle.std.proofs.Common.{◌≡◌, ℕ, zero, suc, ◌+◌, ◌-◌, ◌*◌, ◌%◌, ◌<◌, ◌≤◌, List, [], ◌∷◌, ◌++◌, length, get_or, take, drop, set, replicate, sym, refl, ap, ◌∙◌, append_assoc, append-nil, suc-mul, mul-add, arith, get_or-set_other, get_or-set_same, take-add}
+use Rattle.std.specs.List.{concat}
+use Rattle.std.specs.Simd.{first_chunks}
+use native.Mathlib.Nat.{add-mod, mod-mod}
 use lib.ListN.{get_or-replicate}
 use Rattle.area.proofs.Laws.{either}
 use Rattle.block.specs.Check.{plain, weighted}
@@ -20,10 +22,6 @@ lower-back pairs uppers = omega arith
 lower_only : (pairs uppers lower : ℕ) → lower < 65536 → (lower + 256 * uppers) % 65536 ≡ pairs % 65536 → lower ≡ lower_of pairs uppers
 unfolding lower_of
 lower_only pairs uppers lower h e = omega (arith, e)
-
--- the upper bytes' sum modulo 256 does as well
-pub lower-whole : (pairs uppers lower : ℕ) → lower < 65536 → (lower + 256 * (uppers % 256)) % 65536 ≡ pairs → lower ≡ lower_of pairs uppers
-lower-whole pairs uppers lower h e = lower_only pairs uppers lower h (omega (arith, e))
 
 -- sums of pairs and of upper bytes added, the lower ones' sum adds up, as long as it is no more than a lane holds
 lower-add : (p u p' u' : ℕ) → lower_of p u + lower_of p' u' < 65536 → lower_of ((p + p') % 65536) (u + u') ≡ lower_of p u + lower_of p' u'
@@ -45,9 +43,6 @@ lower-pair x y h k = omega arith
 pub record SetBelow (l : ℕ) (before : List ℕ) (f : ℕ → ℕ) (after : List ℕ) : Type 0 where
   pub passed : (k : ℕ) → k < l → get_or after k 0 ≡ f k
   pub left : (k : ℕ) → l ≤ k → get_or after k 0 ≡ get_or before k 0
-
-pub none-set : (before : List ℕ) (f : ℕ → ℕ) → SetBelow 0 before f before
-none-set before f = record { passed = λ k h. absurd (omega arith); left = λ k h. refl }
 
 pub lane-set : (l : ℕ) (before : List ℕ) (f : ℕ → ℕ) (after : List ℕ) (v : ℕ) → l < length after → v ≡ f l
     → SetBelow l before f after → SetBelow (l + 1) before f (set after l v)
@@ -193,13 +188,19 @@ row_read lanes xs row count after few long small added read =
         lane-added lanes row after added l h (small (2 * l) (omega arith)) (small (2 * l + 1) (omega arith)) (omega (arith, read.lower l h))
         (omega (arith, read.lowers l h))
 
--- ---- the rows of a list, from the byte at i on
+-- ---- the rows of a list
 
-pub row_next : (bytes : List ℕ) (i : ℕ) → take i bytes ++ take (i + 32 - i) (drop i bytes) ≡ take (i + 32) bytes
-row_next bytes i = rw (add-sub_cancel_left i 32) (sym (take-add i 32 bytes))
+-- one row more
+pub rows-next : (rows : List (List ℕ)) (i : ℕ) → i < length rows → concat (take (i + 1) rows) ≡ concat (take i rows) ++ get_or rows i []
+rows-next [] i h = absurd (omega arith)
+rows-next (row ∷ rows) zero h = append-nil row
+rows-next (row ∷ rows) (suc i) h =
+    let e : suc i + 1 ≡ suc (i + 1) = omega arith in
+    rw e (ap (λ (l : List ℕ). row ++ l) (rows-next rows i (omega arith)) ∙ sym (append_assoc row (concat (take i rows)) (get_or rows i [])))
 
-pub row-long : (bytes : List ℕ) (i : ℕ) → i + 32 ≤ length bytes → length (take (i + 32 - i) (drop i bytes)) ≡ 32
-row-long bytes i h = simp (length-take, length-drop) (omega arith)
-
-pub row-byte : (bytes : List ℕ) (i l : ℕ) → l < 32 → get_or (take (i + 32 - i) (drop i bytes)) l 0 ≡ get_or bytes (i + l) 0
-row-byte bytes i l h = rw (add-sub_cancel_left i 32) (get_or-take 32 (drop i bytes) l 0 h ∙ get_or-drop i bytes l 0)
+-- the rows into which bytes are cut are the bytes
+pub rows-cut : (count : ℕ) (bytes : List ℕ) → concat (first_chunks 32 count bytes) ≡ take (32 * count) bytes
+rows-cut zero bytes = refl
+rows-cut (suc count) bytes =
+    let e : 32 * suc count ≡ 32 + 32 * count = omega arith in
+    rw e (ap (λ (l : List ℕ). take 32 bytes ++ l) (rows-cut count (drop 32 bytes)) ∙ sym (take-add 32 (32 * count) bytes))

@@ -1,11 +1,10 @@
 -- Numbers stored and read byte by byte, the header number by number, a block built up from zeros, and its check copied.
 -- Assumes nothing.
-use Rattle.std.proofs.Common.{◌≡◌, ℕ, zero, suc, ◌+◌, ◌-◌, ◌*◌, ◌/◌, ◌%◌, ◌^◌, ◌<◌, ◌≤◌, List, [], ◌∷◌, ◌++◌, length, get_or, drop, set, replicate, sym, refl, ap, ◌∙◌, ap₂, append_assoc, append-nil, add-one, arith, length-append, drop_of_length-le, take_all, drop-cons, take_at, drop_at}
-use native.Mathlib.Nat.{pow-succ', pow-le-pow_right}
+use Rattle.std.specs.Int.{w64, from_le_bytes}
+use Rattle.std.proofs.Common.{◌≡◌, ℕ, zero, suc, ◌+◌, ◌-◌, ◌*◌, ◌/◌, ◌%◌, ◌<◌, ◌≤◌, List, [], ◌∷◌, ◌++◌, length, get_or, drop, set, replicate, sym, refl, ap, ◌∙◌, ap₂, append_assoc, append-nil, add-one, arith, length-append, drop_of_length-le, take_all, drop-cons, take_at, drop_at}
 use lib.ListN.{length-replicate, replicate-append-replicate}
 use lib.Seq.{sets, sets-eq}
 use Rattle.area.specs.Part.{part, splice}
-use Rattle.area.proofs.Parts.{length_part, part-append}
 use Rattle.block.specs.Sizes.{block_size, new_bytes_most, header_size, body_size}
 use Rattle.block.specs.Number.{to_bytes, from_bytes}
 use Rattle.block.specs.Check.{check_a, check_b, modulus}
@@ -15,16 +14,8 @@ use Rattle.block.specs.Kind.{fields_of}
 use Rattle.block.specs.declared.Block.{Block}
 use Rattle.block.specs.declared.Fields.{Fields}
 use Rattle.block.proofs.Lengths.{length-header, length-to_bytes, length-body}
-use Rattle.block.proofs.Numbers.{from_bytes-append}
 
 -- ---- a number stored
-
--- before the first byte
-pub put-start : (list : List ℕ) (place width value : ℕ) → sets list place (to_bytes width value) ≡ sets list (place + 0) (to_bytes (width - 0) value)
-put-start list place width value =
-    let e : place + 0 ≡ place = omega arith in
-    let f : width - 0 ≡ width = omega arith in
-    rw (e, f)
 
 -- one byte more, least first
 pub put-turn : (list : List ℕ) (place i width left : ℕ) → i < width
@@ -43,32 +34,10 @@ put-end list place i width left h = let e : width - i ≡ 0 = omega arith in rw 
 
 -- ---- a number read
 
--- before the first byte
-pub get-start : (list : List ℕ) (place width : ℕ) → 0 ≡ number_at list (place + width) (width - width)
+-- the number in one byte
+pub one-law : (list : List ℕ) (place : ℕ) → place < length list → get_or list place 0 ≡ number_at list place 1
 unfolding number_at part from_bytes
-get-start list place width = let e : width - width ≡ 0 = omega arith in rw e
-
--- one byte more, greatest first
-pub get-turn : (list : List ℕ) (place width i j value : ℕ) → i ≡ j + 1 → j < width → place + width ≤ length list
-    → value ≡ number_at list (place + i) (width - i) → value * 256 + get_or list (place + j) 0 ≡ number_at list (place + j) (width - j)
-unfolding number_at part from_bytes
-get-turn list place width i j value e h k p =
-    let e1 : width - j ≡ suc (width - i) = omega arith in
-    let e2 : place + i ≡ suc (place + j) = omega arith in
-    let q = rw e2 at p in
-    rw (e1, drop-cons list (place + j) 0 (omega arith)) (omega (arith, q))
-
--- the number read so far is below 256 to the number of bytes read
-pub below-turn : (width i j value byte : ℕ) → i ≡ j + 1 → j < width → value < 256 ^ (width - i) → byte < 256 → value * 256 + byte < 256 ^ (width - j)
-below-turn width i j value byte e h p q =
-    let e1 : width - j ≡ suc (width - i) = omega arith in
-    rw (e1, pow-succ' 256 (width - i)) (omega arith)
-
--- so it fits in 64 bits
-pub get-fits : (width i j value byte : ℕ) → width ≤ 8 → i ≡ j + 1 → j < width → value < 256 ^ (width - i) → byte < 256 → value * 256 + byte < 2 ^ 64
-get-fits width i j value byte m e h p q =
-    let k : width - j ≤ 8 = omega arith in
-    omega (arith, below-turn width i j value byte e h p q, pow-le-pow_right {n = 256} (omega arith) k)
+one-law list place h = rw (drop-cons list place 0 h) (omega arith)
 
 -- the number in two bytes
 pub pair-law : (list : List ℕ) (place : ℕ) → place + 2 ≤ length list → get_or list place 0 + get_or list (place + 1) 0 * 256 ≡ number_at list place 2
@@ -76,14 +45,21 @@ unfolding number_at part from_bytes
 pair-law list place h =
     rw (drop-cons list place 0 (omega arith), add-one, drop-cons list (suc place) 0 (omega arith)) (omega arith)
 
--- a number of two parts, the lower first
-pub number_at-append : (list : List ℕ) (place low high : ℕ) → place + low ≤ length list
-    → number_at list place (low + high) ≡ number_at list place low + 256 ^ low * number_at list (place + low) high
-unfolding number_at
-number_at-append list place low high h =
-    ap from_bytes (sym (part-append list place low high))
-    ∙ from_bytes-append (part list place low) (part list (place + low) high)
-    ∙ ap (λ (n : ℕ). from_bytes (part list place low) + 256 ^ n * from_bytes (part list (place + low) high)) (length_part list place low h)
+-- the number in eight bytes
+pub long-law : (list : List ℕ) (place : ℕ) → place + 8 ≤ length list → from_le_bytes w64 (part list place 8) ≡ number_at list place 8
+unfolding number_at part from_bytes
+long-law list place h =
+    rw (
+      drop-cons list place 0 (omega arith),
+      drop-cons list (suc place) 0 (omega arith),
+      drop-cons list (suc (suc place)) 0 (omega arith),
+      drop-cons list (suc (suc (suc place))) 0 (omega arith),
+      drop-cons list (suc (suc (suc (suc place)))) 0 (omega arith),
+      drop-cons list (suc (suc (suc (suc (suc place))))) 0 (omega arith),
+      drop-cons list (suc (suc (suc (suc (suc (suc place)))))) 0 (omega arith),
+      drop-cons list (suc (suc (suc (suc (suc (suc (suc place))))))) 0 (omega arith),
+    )
+    (omega arith)
 
 -- ---- the header
 

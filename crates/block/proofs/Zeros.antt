@@ -1,6 +1,7 @@
 -- All bytes are zero: of a part, of a number, and as the loops of judging test it.
 -- Assumes nothing.
-use Rattle.std.proofs.Common.{◌≡◌, ℕ, zero, suc, ◌+◌, ◌-◌, ◌*◌, ◌<◌, ◌≤◌, max, Bool, true, false, ◌&&◌, eqb, List, [], ◌∷◌, ◌++◌, length, get_or, take, drop, sym, refl, ap, ◌∙◌, add-one, arith, take-append-drop, drop_of_length-le, drop-cons, drop-drop, eq-eqb, ne_eqb, eqb-true}
+use Rattle.std.proofs.Common.{◌≡◌, ℕ, zero, suc, ◌+◌, ◌-◌, ◌*◌, ◌<◌, ◌≤◌, max, Bool, true, false, ◌&&◌, eqb, List, [], ◌∷◌, ◌++◌, length, get_or, take, drop, sym, refl, ap, ◌∙◌, add-one, arith, take-append-drop, drop_of_length-le, drop-cons, drop-drop, eq-eqb, eqb-true}
+use Rattle.std.specs.List.{list_all}
 use mathlib.Core.Bool.{and-true, and_assoc}
 use native.Mathlib.Nat.{add-sub_cancel_left}
 use Rattle.area.specs.Part.{part}
@@ -76,18 +77,16 @@ quarters-zero bytes a b c d h p q r s =
 
 -- ---- byte by byte
 
+-- as a test of each byte
+pub each-zero : (bytes : List ℕ) → list_all (λ byte. eqb byte 0) bytes ≡ all_zero bytes
+unfolding all_zero
+each-zero [] = refl
+each-zero (byte ∷ bytes) = ap (λ (t : Bool). eqb byte 0 && t) (each-zero bytes)
+
 -- the byte at i and those after it
 step : (bytes : List ℕ) (i : ℕ) → i < length bytes → all_zero (drop i bytes) ≡ (eqb (get_or bytes i 0) 0 && all_zero (drop (i + 1) bytes))
 unfolding all_zero
 step bytes i h = rw (add-one, drop-cons bytes i 0 h)
-
--- a zero byte is passed
-pub zeros-turn : (bytes : List ℕ) (i : ℕ) → i < length bytes → get_or bytes i 0 ≡ 0 → all_zero (drop i bytes) ≡ all_zero (drop (i + 1) bytes)
-zeros-turn bytes i h e = step bytes i h ∙ ap (λ (t : Bool). t && all_zero (drop (i + 1) bytes)) (eq-eqb (get_or bytes i 0) 0 e)
-
--- another byte decides
-pub zeros-not : (bytes : List ℕ) (i : ℕ) → i < length bytes → (get_or bytes i 0 ≡ 0 → ⊥) → all_zero (drop i bytes) ≡ false
-zeros-not bytes i h n = step bytes i h ∙ ap (λ (t : Bool). t && all_zero (drop (i + 1) bytes)) (ne_eqb (get_or bytes i 0) 0 n)
 
 -- past the last byte
 pub zeros-end : (bytes : List ℕ) (i : ℕ) → length bytes ≤ i → all_zero (drop i bytes) ≡ true

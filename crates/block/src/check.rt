@@ -4,10 +4,13 @@
 // from each row the pair of bytes 2 l and 2 l + 1, as one number with the lower byte first. It sums these numbers modulo 65,536, and
 // the upper bytes alone, which tell at the end what the lower ones sum to. A byte counts 32 times more for each row after its own: the
 // totals take in the sums before each row. No lane waits for another, and the compiler keeps them in vector registers.
-ghost use Rattle.std.specs.Prelude.{◌≡◌, ◌+◌, ◌-◌, ◌*◌, ◌/◌, ◌%◌, ◌<◌, ◌≤◌, ◌++◌, length, slice_index};
+ghost use Rattle.std.specs.Prelude.{◌≡◌, ℕ, ◌+◌, ◌-◌, ◌*◌, ◌<◌, ◌≤◌, ◌++◌, length, slice_index};
+ghost use Rattle.std.specs.List.{concat};
 ghost use Rattle.block.specs.Sizes.{body_size};
 ghost use Rattle.block.specs.Check.{check_a, check_b, modulus};
 ghost use Rattle.block.specs.Lanes.{lower_of, LanesMost, SumsMost, RowAdded, Summed, plain_of, weighted_of, uppers_of};
+
+use crate::number;
 
 const MODULUS: u32 = 65535;
 
@@ -35,77 +38,44 @@ struct Lanes {
     uppertotals: [u16; 16],
 }
 
-fn wide(byte: u8) -> u16
-    ensures { (result ≡ byte) × (result ≤ 255) }
-{
-    byte as u16
-}
-
-fn wider(lane: u16) -> u32
-    ensures { (result ≡ lane) × (result ≤ 65535) }
-{
-    lane as u32
-}
-
-// The pair of bytes from a place on, the lower byte first.
-fn pair(bytes: &[u8], place: usize) -> u16
-    requires { place + 2 ≤ length bytes.now }
-    ensures { (result % 256 ≡ slice_index bytes.now place) × (result / 256 ≡ slice_index bytes.now (place + 1)) }
-{
-    wide(bytes[place]) + 256 * wide(bytes[place + 1])
-}
-
 // What the lower bytes of pairs sum to, from the pairs' sum and that of the upper bytes.
 fn lower(pairs: u16, uppers: u16) -> u16
     ensures { result ≡ lower_of pairs uppers }
 {
-    std::num::wrapping_sub_u16(pairs, 256 * (uppers % 256))
+    pairs.wrapping_sub(256 * (uppers % 256))
 }
 
-// The lanes once one more row is read.
-fn row(before: Lanes, bytes: &[u8]) -> Lanes
-    requires { (length bytes.now ≡ 32) × LanesMost 3825 before.uppers × LanesMost 57375 before.uppertotals }
-    ensures { RowAdded before bytes.now result }
+// The lanes once one more row is read. That its bytes are below 256 is said for `rows`, which does not see it of an array in a slice.
+fn row(lanes: &mut Lanes, bytes: &[u8; 32])
+    requires { LanesMost 3825 lanes.old.uppers × LanesMost 57375 lanes.old.uppertotals }
+    ensures added { RowAdded lanes.old bytes.now lanes.new }
+    ensures small { (i : ℕ) → slice_index bytes.now i < 256 }
 {
-    let mut pairs = before.pairs;
-    let mut uppers = before.uppers;
-    let mut pairtotals = before.pairtotals;
-    let mut uppertotals = before.uppertotals;
-    let mut lane = 0;
-    while lane < 16 {
-        let number = pair(bytes, 2 * lane);
-        let sum = pairs[lane];
-        let upper = uppers[lane];
-        pairtotals[lane] = std::num::wrapping_add_u16(pairtotals[lane], sum);
-        uppertotals[lane] += upper;
-        pairs[lane] = std::num::wrapping_add_u16(sum, number);
-        uppers[lane] = upper + number / 256;
-        lane += 1;
-    }
-    Lanes {
-        pairs,
-        uppers,
-        pairtotals,
-        uppertotals,
+    for lane in 0..16 {
+        let number = number::get_pair(bytes, 2 * lane);
+        let sum = lanes.pairs[lane];
+        let upper = lanes.uppers[lane];
+        lanes.pairtotals[lane] = lanes.pairtotals[lane].wrapping_add(sum);
+        lanes.uppertotals[lane] += upper;
+        lanes.pairs[lane] = sum.wrapping_add(number);
+        lanes.uppers[lane] = upper + number / 256;
     }
 }
 
 // The lanes of a first row and up to fifteen more.
-fn rows(first: &[u8], more: &[u8]) -> Lanes
-    requires { (length first.now ≡ 32) × (length more.now % 32 ≡ 0) × (length more.now ≤ 480) }
-    ensures { Summed result (first.now ++ more.now) × SumsMost result }
+fn rows(first: &[u8; 32], more: &[[u8; 32]]) -> Lanes
+    requires { length more.now ≤ 15 }
+    ensures { Summed result (first.now ++ concat more.now) × SumsMost result }
 {
-    let none = Lanes {
+    let mut lanes = Lanes {
         pairs: [0; 16],
         uppers: [0; 16],
         pairtotals: [0; 16],
         uppertotals: [0; 16],
     };
-    let mut lanes = row(none, first);
-    let mut i = 0;
-    while i < more.len() {
-        lanes = row(lanes, &more[i..i + 32]);
-        i += 32;
+    row(&mut lanes, first);
+    for bytes in more {
+        row(&mut lanes, bytes);
     }
     lanes
 }
@@ -126,17 +96,15 @@ fn joined(lanes: Lanes) -> Running
 {
     let mut a: u32 = 0;
     let mut b: u32 = 0;
-    let mut lane = 0;
-    while lane < 16 {
+    for lane in 0..16 {
         let upper = lanes.uppers[lane];
         let uppertotal = lanes.uppertotals[lane];
         let lowertotal = lower(lanes.pairtotals[lane], uppertotal);
         let sum = lower(lanes.pairs[lane], upper) + upper;
-        let total = wider(lowertotal) + wider(uppertotal);
-        let both = wider(sum % 16384);
+        let total = u32::from(lowertotal) + u32::from(uppertotal);
+        let both = u32::from(sum % 16384);
         a += both;
-        b += 32 * total + weight(lane) * both - wider(upper);
-        lane += 1;
+        b += 32 * total + weight(lane) * both - u32::from(upper);
     }
     Running { a, b }
 }
@@ -147,10 +115,11 @@ pub fn check_of(body: &[u8]) -> Sums
     ensures { (result.a ≡ check_a modulus body.now) × (result.b ≡ check_b modulus body.now) }
 {
     let mut first = [0; 32];
-    area::copy(&mut first[4..], &body[..28]);
-    let sums = joined(rows(&first, &body[28..508]));
+    first[4..].copy_from_slice(&body[..28]);
+    let (more, _) = body[28..508].as_chunks::<32>();
+    let sums = joined(rows(&first, more));
     Sums {
-        a: (sums.a % MODULUS) as u64,
-        b: (sums.b % MODULUS) as u64,
+        a: u64::from(sums.a % MODULUS),
+        b: u64::from(sums.b % MODULUS),
     }
 }

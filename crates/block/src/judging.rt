@@ -1,5 +1,5 @@
 // Judging a slot: its first 508 bytes are summed once, and no second block is built.
-ghost use Rattle.std.specs.Prelude.{◌≡◌, ◌+◌, ◌-◌, ◌<◌, ◌≤◌, max, ◌&&◌, length, ◌==◌};
+ghost use Rattle.std.specs.Prelude.{◌≡◌, ◌+◌, ◌<◌, ◌≤◌, length};
 ghost use Rattle.area.specs.Part.{part};
 ghost use Rattle.block.specs.Sizes.{block_size, new_bytes_most};
 ghost use Rattle.block.specs.Kind.{kind_of, length_of};
@@ -10,41 +10,26 @@ ghost use Rattle.block.specs.Slot.{all_zero, same, fields_at, block_at, new_byte
 use crate::{Block, Fields, Kind, check, number, writing};
 
 // Sequences are below this.
-const SEQUENCES: u64 = 281474976710656;
+const SEQUENCES: u64 = 1 << 48;
 
 // The most updates of a group.
 const GROUP: usize = 16;
 
-// Whether all bytes are zero.
+// Whether all bytes are zero, for bytes that likely are not: it ends at the first other one.
 pub fn zeros(bytes: &[u8]) -> bool
     ensures { result ≡ all_zero bytes.now }
 {
-    let mut i = 0;
-    while i < bytes.len() {
-        if bytes[i] != 0 {
-            return false;
-        }
-        i += 1;
-    }
-    true
+    bytes.iter().all(|byte| *byte == 0)
 }
 
-// The larger of two bytes.
-fn larger(a: u8, b: u8) -> u8
-    ensures { result ≡ max a b }
-{
-    if a < b { b } else { a }
-}
-
-// Whether all of a few bytes are zero: the largest of them tells, and no branch is taken on a byte.
+// Whether all of a few bytes are zero, for bytes that likely are: the largest of them tells, and no branch is taken on a byte, so that the
+// compiler compares sixteen at once. `zeros` would take them one by one.
 fn few_blank(bytes: &[u8]) -> bool
     ensures { result ≡ all_zero bytes.now }
 {
     let mut most: u8 = 0;
-    let mut i = 0;
-    while i < bytes.len() {
-        most = larger(most, bytes[i]);
-        i += 1;
+    for byte in bytes {
+        most = most.max(*byte);
     }
     most == 0
 }
@@ -77,12 +62,10 @@ fn blank(bytes: &[u8]) -> bool
         return few_blank(bytes);
     }
     let last = bytes.len() - 128;
-    let mut i = 0;
-    while i < last {
+    for i in (0..last).step_by(128) {
         if !row_blank(&bytes[i..i + 128]) {
             return false;
         }
-        i += 128;
     }
     row_blank(&bytes[last..])
 }
@@ -92,17 +75,12 @@ fn fields_at(slot: &[u8]) -> Fields
     requires { length slot.now ≡ block_size }
     ensures { result ≡ fields_at slot.now }
 {
-    let kind = number::get(slot, 16, 1);
-    let index = number::get_pair(slot, 18) as usize;
-    let page = number::get_pair(slot, 20) as usize;
-    let offset = number::get_pair(slot, 22) as usize;
-    let length = number::get_pair(slot, 24) as usize;
     Fields {
-        kind,
-        index,
-        page,
-        offset,
-        length,
+        kind: u64::from(slot[16]),
+        index: usize::from(number::get_pair(slot, 18)),
+        page: usize::from(number::get_pair(slot, 20)),
+        offset: usize::from(number::get_pair(slot, 22)),
+        length: usize::from(number::get_pair(slot, 24)),
     }
 }
 
@@ -110,21 +88,18 @@ fn fields_at(slot: &[u8]) -> Fields
 fn kind_of(fields: Fields) -> Kind
     ensures { result ≡ kind_of fields }
 {
-    let kind = fields.kind;
-    if kind == 1 {
-        return Kind::Update {
+    match fields.kind {
+        1 => Kind::Update {
             index: fields.index,
             page: fields.page,
             offset: fields.offset,
             length: fields.length,
-        };
-    }
-    if kind == 2 {
-        return Kind::Commit {
+        },
+        2 => Kind::Commit {
             updates: fields.index,
-        };
+        },
+        _ => Kind::Clean { page: fields.page },
     }
-    Kind::Clean { page: fields.page }
 }
 
 // The block that a slot's header tells.
@@ -132,15 +107,11 @@ pub fn block_at(slot: &[u8]) -> Block
     requires { length slot.now ≡ block_size }
     ensures { result ≡ block_at slot.now }
 {
-    let sequence = number::get_long(slot, 0);
-    let keep_from = number::get_long(slot, 8);
-    let kind = kind_of(fields_at(slot));
-    let ticket = number::get_long(slot, 28);
     Block {
-        sequence,
-        keep_from,
-        kind,
-        ticket,
+        sequence: number::get_long(slot, 0),
+        keep_from: number::get_long(slot, 8),
+        kind: kind_of(fields_at(slot)),
+        ticket: number::get_long(slot, 28),
     }
 }
 
@@ -148,7 +119,7 @@ pub fn block_at(slot: &[u8]) -> Block
 fn legal_numbers(slots: u64, s: u64, k: u64, ticket: u64) -> bool
     ensures { result ≡ legal_numbers slots s k ticket }
 {
-    let back = if k <= s { s - k } else { 0 };
+    let back = s.saturating_sub(k);
     (1 <= s) & (s < SEQUENCES) & (1 <= k) & (k <= s) & (back < slots) & (ticket < s)
 }
 
@@ -175,20 +146,8 @@ fn legal_kind(pages: usize, ticket: u64, kind: Kind) -> bool
 fn legal_block(slots: u64, pages: usize, block: Block) -> bool
     ensures { result ≡ legal slots pages block }
 {
-    let kind = block.kind;
-    let numbers = legal_numbers(slots, block.sequence, block.keep_from, block.ticket);
-    let fields = legal_kind(pages, block.ticket, kind);
-    numbers & fields
-}
-
-fn same_fields(a: Fields, b: Fields) -> bool
-    ensures { result ≡ (a.kind == b.kind && a.index == b.index && a.page == b.page && a.offset == b.offset && a.length == b.length) }
-{
-    (a.kind == b.kind)
-        & (a.index == b.index)
-        & (a.page == b.page)
-        & (a.offset == b.offset)
-        & (a.length == b.length)
+    legal_numbers(slots, block.sequence, block.keep_from, block.ticket)
+        & legal_kind(pages, block.ticket, block.kind)
 }
 
 // Whether a slot's bytes are the layout of the block that its header tells: the kind has these fields, reserved bytes and
@@ -197,12 +156,12 @@ fn laid_out(slot: &[u8], block: Block, count: usize) -> bool
     requires { (length slot.now ≡ block_size) × (block ≡ block_at slot.now) × (count ≡ length_of block.kind) × (count ≤ new_bytes_most) }
     ensures { result ≡ same slot.now (layout block (new_bytes_at slot.now count)) }
 {
-    let kind = block.kind;
-    let told = same_fields(fields_at(slot), writing::fields_of(kind));
+    let told = fields_at(slot) == writing::fields_of(block.kind);
     let reserved = (slot[17] == 0) & (slot[26] == 0) & (slot[27] == 0);
     let end = writing::HEADER + count;
     let sums = check::check_of(&slot[..writing::BODY]);
-    let checked = (number::get_pair(slot, 508) == sums.a) & (number::get_pair(slot, 510) == sums.b);
+    let checked = (u64::from(number::get_pair(slot, 508)) == sums.a)
+        & (u64::from(number::get_pair(slot, 510)) == sums.b);
     let padding = blank(&slot[end..writing::BODY]);
     told & reserved & padding & checked
 }
@@ -212,14 +171,7 @@ pub fn valid(slot: &[u8], block: Block, slots: u64, pages: usize, place: u64) ->
     requires { (length slot.now ≡ block_size) × (block ≡ block_at slot.now) × (0 < slots) }
     ensures { result ≡ is_valid slots pages place slot.now block }
 {
-    if !legal_block(slots, pages, block) {
-        return false;
-    }
-    let own = block.sequence % slots;
-    if own != place {
-        return false;
-    }
-    let kind = block.kind;
-    let count = writing::length_of(kind);
-    laid_out(slot, block, count)
+    legal_block(slots, pages, block)
+        && block.sequence % slots == place
+        && laid_out(slot, block, writing::length_of(block.kind))
 }

@@ -64,7 +64,7 @@ pub struct Block {
 }
 
 // Bytes 16 to 25 of a block: the kind's number, and the fields with 0 where the kind has none.
-#[derive(Clone, Copy)]
+#[derive(Clone, Copy, PartialEq, Eq)]
 pub struct Fields {
     pub kind: u64,
     pub index: usize,
@@ -192,10 +192,6 @@ pub fn new_bytes(slot: &[u8], count: usize) -> &[u8]
 pub fn legal_place(pages: usize, page: usize, offset: usize, length: usize) -> bool
     ensures { result ≡ legal_place pages page offset length }
 {
-    let room = if offset <= Block::PAGE {
-        Block::PAGE - offset
-    } else {
-        0
-    };
+    let room = Block::PAGE.saturating_sub(offset);
     (page < pages) & (1 <= length) & (length <= Block::NEW_BYTES) & (length <= room)
 }

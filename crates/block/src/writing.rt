@@ -51,14 +51,8 @@ pub fn length_of(kind: Kind) -> usize
     ensures { result ≡ length_of kind }
 {
     match kind {
-        Kind::Update {
-            index,
-            page,
-            offset,
-            length,
-        } => length,
-        Kind::Commit { updates } => 0,
-        Kind::Clean { page } => 0,
+        Kind::Update { length, .. } => length,
+        Kind::Commit { .. } | Kind::Clean { .. } => 0,
     }
 }
 
@@ -79,10 +73,9 @@ fn put_middle(b: &mut [u8; 512], fields: Fields)
 fn put_header(b: &mut [u8; 512], block: Block)
     ensures { b.new ≡ sets b.old 0 (header block) }
 {
-    let kind = block.kind;
     number::put(b, 0, 8, block.sequence);
     number::put(b, 8, 8, block.keep_from);
-    put_middle(b, fields_of(kind));
+    put_middle(b, fields_of(block.kind));
     number::put(b, 28, 8, block.ticket);
 }
 
@@ -95,8 +88,8 @@ pub fn store(slot: &mut [u8], block: Block, new: &[u8])
     let mut b = [0; Block::SIZE];
     put_header(&mut b, block);
     let end = HEADER + new.len();
-    area::copy(&mut b[HEADER..end], new);
-    area::copy(slot, &b);
+    b[HEADER..end].copy_from_slice(new);
+    slot.copy_from_slice(&b);
     let sums = check::check_of(&slot[..BODY]);
     number::put(&mut b, 508, 2, sums.a);
     number::put(&mut b, 510, 2, sums.b);

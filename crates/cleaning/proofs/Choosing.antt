@@ -9,7 +9,7 @@ use native.Mathlib.Omega.{arith}
 use lib.Dec.{eqb, ltb}
 use lib.ListN.{length, drop, get_or, set}
 use lib.Seq.{get_or-set_same, get_or-set_other, set-get_or, lt-length-set}
-use borrow.Author.Tests.{eqb-true, eqb-false, eq-eqb, ne_eqb, ltb-true, ltb-false, not-true}
+use borrow.Author.Tests.{eqb-true, eqb-false, eq-eqb, ne_eqb, ltb-true, not-true}
 use Rattle.area.proofs.Laws.{and_both, by-eq, either, never_both}
 use Rattle.promises.specs.declared.State.{State}
 use Rattle.promises.specs.declared.Dirty.{Dirty}
@@ -21,10 +21,10 @@ use Rattle.promises.specs.Sound.{member, all_below, dirty_numbers}
 use Rattle.promises.specs.CleanStep.{NoLater}
 use Rattle.promises.proofs.Soundness.{Sound}
 use Rattle.promises.proofs.Table.{look_up-set}
-use Rattle.soundness.proofs.Scans.{firsts_more, firsts_same, firsts-end}
+use Rattle.soundness.proofs.Scans.{firsts_more, firsts_same}
 use Rattle.promises.specs.States.{free, is_of}
 use Rattle.table.proofs.Entries.{used-below, own-apart, first_below}
-use Rattle.table.proofs.Scans.{lower, not_lower}
+use Rattle.table.proofs.Scans.{smallest-more, smallest-same}
 use Rattle.cleaning.specs.Cleans.{entry_at, rank_in, Named}
 
 -- ---- ranks
@@ -37,14 +37,6 @@ rank-used : (entry : Dirty) → (entry.first ≡ 0 → ⊥) → entry.page < 655
 rank-used entry n small = simp (ne_eqb _ _ n, ne_eqb 65536 entry.page (λ e. omega arith))
 
 -- ---- searches that end with the last dirty page
-
--- an entry is left where a dirty page is
-pub more_left : (ds : List Dirty) (i : ℕ) → 0 < length (first_groups (drop i ds)) → i < length ds
-more_left ds i h = either i (length ds) (λ l. l) (λ l. absurd (omega (arith, ap length (firsts-end ds i l))))
-
--- while pages are left among 32 entries, an entry is
-pub entry-left : (ds : List Dirty) (left i : ℕ) → length ds ≡ 32 → left ≡ length (first_groups (drop i ds)) → 0 < left → i < 32
-entry-left ds left i long is some = let more : i < length ds = more_left ds i (omega arith) in omega arith
 
 -- the count of those that are left, past an entry in use or free
 module _ (ds : List Dirty) (left i : ℕ) (e : left ≡ length (first_groups (drop i ds))) (h : i < length ds) where
@@ -96,19 +88,6 @@ module _ (named : ℕ) (ds : List Dirty) (best least i : ℕ) (l : Leads named d
         by-eq (get_or ds j free).first 0 (λ z. omega (arith, best-few, rank-free named (get_or ds j free) z))
         (λ n. omega (arith, best-few, l.reached, (l.passed j (used-below i ds j none n)).0))
 
--- ---- the search's test
-
-pub searches-on : (left least : ℕ) → (ltb 0 left && ltb 0 least) ≡ true → (0 < left) × (0 < least)
-searches-on left least e = let b = and_both (ltb 0 left) (ltb 0 least) e in (ltb-true 0 left b.0, ltb-true 0 least b.1)
-
--- it ends where no page is left, or at rank 0
-pub search-ends : (C : Type 0) (left least : ℕ) → (ltb 0 left && ltb 0 least) ≡ false → (left ≡ 0 → C) → (least ≡ 0 → C) → C
-search-ends C left least e none found = go (ltb 0 left) refl e
-  where
-    go : (b : Bool) → ltb 0 left ≡ b → (b && ltb 0 least) ≡ false → C
-    go true p q = let z : least ≤ 0 = ltb-false 0 least q in found (omega arith)
-    go false p q = let z : left ≤ 0 = ltb-false 0 left p in none (omega arith)
-
 -- ---- the rank of a named page
 
 -- rank 0 is that of the named page
@@ -142,35 +121,27 @@ dirty-at page (d ∷ ds) C m k = go (eqb d.first 0) (eqb page d.page) refl refl 
 
 -- ---- a search for the oldest first group, one frame taken as free
 
--- the test of one entry in use against the lowest so far, and a free entry
+-- one more entry: in use, of the frame that is taken as free, or free
 module _ (low : ℕ) (ds : List Dirty) (frame i : ℕ) (h : i < length ds) where
   long : i < length (set ds frame free)
   long = lt-length-set ds frame free h
 
-  abbrev Passed : Dirty → Type 0
-  Passed d = (not (eqb d.first 0) && ltb d.first low) ≡ false
+  same-first : (i ≡ frame → ⊥) → (get_or ds i free).first ≡ (get_or (set ds frame free) i free).first
+  same-first m = ap (λ (d : Dirty). d.first) (sym (get_or-set_other ds frame i free free m))
 
-  pub lower-but : ((get_or ds i free).first ≡ 0 → ⊥) → (not (eqb i frame) && ltb (get_or ds i free).first low) ≡ true
-      → smallest (get_or ds i free).first (first_groups (drop (i + 1) (set ds frame free))) ≡ smallest low (first_groups (drop i (set ds frame free)))
-  lower-but n e =
-      let both = and_both (not (eqb i frame)) (ltb (get_or ds i free).first low) e in
-      let same : get_or ds i free ≡ get_or (set ds frame free) i free = sym (get_or-set_other ds frame i free free (eqb-false _ _ (not-true _ both.0))) in
-      ap (λ (d : Dirty). smallest d.first (first_groups (drop (i + 1) (set ds frame free)))) same
-      ∙ (lower low (set ds frame free) i long (subst (λ (d : Dirty). (not (eqb d.first 0) && ltb d.first low) ≡ true) same (rw (ne_eqb _ _ n) both.1))).0
+  pub lower-but : ((get_or ds i free).first ≡ 0 → ⊥) → (i ≡ frame → ⊥)
+      → smallest (min low (get_or ds i free).first) (first_groups (drop (i + 1) (set ds frame free))) ≡ smallest low (first_groups (drop i (set ds frame free)))
+  lower-but n m =
+      ap (λ (x : ℕ). smallest (min low x) (first_groups (drop (i + 1) (set ds frame free)))) (same-first m)
+      ∙ smallest-more low (set ds frame free) i long (λ z. n (same-first m ∙ z))
 
-  -- the frame that is taken as free, and one whose entry does not pass the test
-  passed-by : ((i ≡ frame → ⊥) → Passed (get_or ds i free)) → smallest low (first_groups (drop (i + 1) (set ds frame free))) ≡ smallest low (first_groups (drop i (set ds frame free)))
-  passed-by p = not_lower low (set ds frame free) i long (by-eq i frame own (λ n. subst Passed (sym (get_or-set_other ds frame i free free n)) (p n)))
-    where
-      own : i ≡ frame → Passed (get_or (set ds frame free) i free)
-      own q = subst Passed (sym (ap (λ (j : ℕ). get_or (set ds j free) i free) (sym q) ∙ get_or-set_same ds i free free h)) refl
-
-  pub not-lower-but : ((get_or ds i free).first ≡ 0 → ⊥) → (not (eqb i frame) && ltb (get_or ds i free).first low) ≡ false
-      → smallest low (first_groups (drop (i + 1) (set ds frame free))) ≡ smallest low (first_groups (drop i (set ds frame free)))
-  not-lower-but n e = passed-by (λ m. rw (ne_eqb _ _ n) (rw (ne_eqb i frame m) at e))
+  pub own-but : i ≡ frame → smallest low (first_groups (drop (i + 1) (set ds frame free))) ≡ smallest low (first_groups (drop i (set ds frame free)))
+  own-but q =
+      smallest-same low (set ds frame free) i long
+      (ap (λ (d : Dirty). d.first) (ap (λ (j : ℕ). get_or (set ds j free) i free) (sym q) ∙ get_or-set_same ds i free free h))
 
   pub free-but : (get_or ds i free).first ≡ 0 → smallest low (first_groups (drop (i + 1) (set ds frame free))) ≡ smallest low (first_groups (drop i (set ds frame free)))
-  free-but z = passed-by (λ m. rw (eq-eqb _ _ z))
+  free-but z = by-eq i frame own-but (λ m. smallest-same low (set ds frame free) i long (sym (same-first m) ∙ z))
 
 smallest-none : (low : ℕ) (xs : List ℕ) → length xs ≡ 0 → smallest low xs ≡ low
 smallest-none low [] e = refl

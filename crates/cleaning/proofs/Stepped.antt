@@ -8,25 +8,28 @@ use Prim.Native.Nat.{ℕ, ◌*◌, ◌^◌, ◌≤◌, ◌<◌}
 use native.Mathlib.Omega.{arith}
 use lib.ListN.{length, get_or, set}
 use borrow.Author.Tests.{eq-eqb, ne_eqb}
+use Rattle.std.proofs.lemmas.List.{drop_all}
 use Rattle.block.proofs.Tests.{tests}
 use Rattle.promises.specs.declared.State.{State}
 use Rattle.promises.specs.declared.Dirty.{Dirty}
 use Rattle.promises.specs.declared.Cleaning.{Cleaning}
 use Rattle.promises.specs.declared.Cleaning.TheVariants.{Idle, First, Second, Third}
-use Rattle.promises.specs.declared.Answer.{Answer}
-use Rattle.promises.specs.Answers.{done, replied, answered}
+use Rattle.std.specs.Prelude.{Result}
+use Rattle.promises.specs.declared.Refusal.{Refusal}
+use Rattle.promises.specs.Answers.{done, replied, refusal_in}
 use Rattle.promises.specs.Areas.{page_at, first_half, second_half, with_first_half, with_second_half}
 use Rattle.promises.specs.Blocks.{clean, stored}
 use Rattle.promises.specs.DirtyPages.{DirtyPage, at, look_up, without}
 use Rattle.promises.specs.Contents.{contents_of, dirty_of}
 use Rattle.promises.specs.States.{free, is_of, set_cleaning}
-use Rattle.promises.specs.Sums.{dirty_count, sequences_taken}
+use Rattle.promises.specs.Sums.{dirty_count, first_groups, sequences_taken}
 use Rattle.promises.specs.Sound.{sound, names, member, dirty_numbers}
 use Rattle.promises.specs.CleanStep.{NoLater, Takes, clean_store, third_refusal, clean_refusal_of, CleanStep, CleanSteps}
+use Rattle.promises.proofs.Replies.{answered-by}
 use Rattle.promises.proofs.Soundness.{Sound, sound-of, of-sound}
 use Rattle.promises.proofs.Changes.{sound-cleaning}
 use Rattle.table.specs.Table.{Holds}
-use Rattle.table.proofs.Entries.{freed-is}
+use Rattle.table.proofs.Entries.{freed-is, used-below}
 use Rattle.table.proofs.Holding.{held-keep, sound-holds}
 use Rattle.stepping.specs.Tables.{table_with, table_of}
 use Rattle.stepping.proofs.Held.{held-named}
@@ -77,7 +80,7 @@ chosen-least s frame h some least = go s.cleaning refl
     go (Third page) e = by_name page (Third page) e refl (names-dirty s (Third page) h e) (λ p. p)
 
 -- ---- THE ACCEPTED STEP
-module _ (s : State) (log home frames : List ℕ) (accepts : clean_refusal_of s log home frames ≡ 0) (frame : ℕ) (chosen : Chosen s frame) (long : length s.dirty ≡ 32) where
+module _ (s : State) (log home frames : List ℕ) (accepts : clean_refusal_of s log home frames ≡ 0) (frame : ℕ) (chosen : Chosen s frame) where
   tests-passed : Accepted s (length log) (length home) (length frames)
   tests-passed = accepted s (length log) (length home) (length frames) accepts
 
@@ -93,8 +96,13 @@ module _ (s : State) (log home frames : List ℕ) (accepts : clean_refusal_of s 
   abbrev pages : List DirtyPage
   pages = dirty_of s frames
 
+  -- the frame is one of the entries, since it is used
+  within : frame < length s.dirty
+  unfolding first_groups
+  within = used-below (length s.dirty) s.dirty frame (ap (λ (ds : List Dirty). length (first_groups ds)) (drop_all (length s.dirty) s.dirty (omega arith))) chosen.used
+
   page-found : look_up page pages ≡ at entry
-  page-found = look-frame s facts frames frame (omega (arith, chosen.below, facts.frames.1)) chosen.used
+  page-found = look-frame s facts frames frame within chosen.used
 
   pub fitting : (held : Dirty) → held ≡ entry_at s frame → Fitting (length home) (length frames) held.page frame
   fitting held same =
@@ -114,7 +122,7 @@ module _ (s : State) (log home frames : List ℕ) (accepts : clean_refusal_of s 
   takes-by (Third named) t = sym t
 
   -- the step of a cleaning that is at this store
-  step_by : (a : Answer) (c : Cleaning) (r : State) (log' home' : List ℕ) → s.cleaning ≡ c → sound r ≡ true
+  step_by : (a : Result (Unit {0}) Refusal) (c : Cleaning) (r : State) (log' home' : List ℕ) → s.cleaning ≡ c → sound r ≡ true
       → log' ≡ (clean_store c s log home pages (contents_of s []) page entry).log → home' ≡ (clean_store c s log home pages (contents_of s []) page entry).home
       → r ≡ (clean_store c s log home pages (contents_of s []) page entry).state
       → ((staging : List ℕ) → contents_of r staging ≡ (clean_store c s log home pages (contents_of s staging) page entry).contents)
@@ -138,7 +146,7 @@ module _ (s : State) (log home frames : List ℕ) (accepts : clean_refusal_of s 
   page-named = held-named (table_of s) frames pages (sound-holds s frames tests-passed.is_sound) page entry page-found
 
   -- a half's store leaves the state but for the cleaning
-  half-steps : (a : Answer) (c after : Cleaning) (log' home' : List ℕ) → s.cleaning ≡ c → names after (dirty_numbers s.dirty) ≡ true
+  half-steps : (a : Result (Unit {0}) Refusal) (c after : Cleaning) (log' home' : List ℕ) → s.cleaning ≡ c → names after (dirty_numbers s.dirty) ≡ true
       → log' ≡ (clean_store c s log home pages (contents_of s []) page entry).log → home' ≡ (clean_store c s log home pages (contents_of s []) page entry).home
       → set_cleaning s after ≡ (clean_store c s log home pages (contents_of s []) page entry).state
       → ((staging : List ℕ) → contents_of (set_cleaning s after) staging ≡ (clean_store c s log home pages (contents_of s staging) page entry).contents)
@@ -147,7 +155,7 @@ module _ (s : State) (log home frames : List ℕ) (accepts : clean_refusal_of s 
   half-steps a c after log' home' e n l h t k d =
       step_by a c (set_cleaning s after) log' home' e (of-sound (set_cleaning s after) (sound-cleaning s after facts n)) l h t k d
 
-  module _ (a : Answer) (r : State) where
+  module _ (a : Result (Unit {0}) Refusal) (r : State) where
     -- the first half is stored
     pub first_made : (stores_made s.cleaning ≡ 2 → ⊥) → (stores_made s.cleaning ≡ 1 → ⊥) → (held : Dirty) → held ≡ entry_at s frame
         → (log' home' : List ℕ) → r ≡ set_cleaning s (Second held.page) → log' ≡ log → home' ≡ with_first_half home held.page (first_half (page_at frames frame))
@@ -201,10 +209,10 @@ module _ (s : State) (log home frames : List ℕ) (accepts : clean_refusal_of s 
   page-of = rw (ne_eqb _ _ chosen.used, eq-eqb page page refl)
 
   -- the clean block is stored, and the frame is free
-  pub block_made : (a : Answer) (r : State) → stores_made s.cleaning ≡ 2 → (log' home' : List ℕ) → r ≡ clean_done s (set s.dirty frame free) → log' ≡ cleaned_log s log frame
+  pub block_made : length s.dirty ≡ 32 → (a : Result (Unit {0}) Refusal) (r : State) → stores_made s.cleaning ≡ 2 → (log' home' : List ℕ) → r ≡ clean_done s (set s.dirty frame free) → log' ≡ cleaned_log s log frame
       → home' ≡ home → CleanStep s log home frames (record { state = r; answer = a }) log' home'
   unfolding clean_store
-  block_made a r two log' home' t l h =
+  block_made long a r two log' home' t l h =
       subst (λ (x : State). CleanStep s log home frames (record { state = x; answer = a }) log' home') (sym t) (go s.cleaning refl two)
     where
       held : Holds (table_with s (set s.dirty frame free)) frames (without page pages)
@@ -223,18 +231,18 @@ module _ (s : State) (log home frames : List ℕ) (accepts : clean_refusal_of s 
           (ap (clean_done s) (freed-is page frame s.dirty facts.distinct_pages page-of))
           (λ staging. refl) held.looks
 
--- ---- THE WHOLE STEP: by its number it is refused and leaves everything, or it makes its store
-pub steps-by : (s : State) (log home frames : List ℕ) (number : ℕ) (r : State) (a : Answer) (log' home' : List ℕ)
-    → number ≡ clean_refusal_of s log home frames → answered a ≡ replied number done
-    → ((number ≡ 0) × CleanStep s log home frames (record { state = r; answer = a }) log' home') ⊎ ((number ≡ 0 → ⊥) × (r ≡ s) × (log' ≡ log) × (home' ≡ home))
+-- ---- THE WHOLE STEP: by what its test answers it is refused and leaves everything, or it makes its store
+pub steps-by : (s : State) (log home frames : List ℕ) (r : State) (a : Result (Unit {0}) Refusal) (log' home' : List ℕ)
+    → refusal_in a ≡ clean_refusal_of s log home frames
+    → ((refusal_in a ≡ 0) × CleanStep s log home frames (record { state = r; answer = a }) log' home') ⊎ ((refusal_in a ≡ 0 → ⊥) × (r ≡ s) × (log' ≡ log) × (home' ≡ home))
     → CleanSteps s log home frames (record { state = r; answer = a }) log' home'
-steps-by s log home frames number r a log' home' e told (inl w) = record {
-  answer_is = told ∙ ap (λ (n : ℕ). replied n done) e;
+steps-by s log home frames r a log' home' e (inl w) = record {
+  answer_is = answered-by a ∙ ap (λ (n : ℕ). replied n done) e;
   refused = λ n. absurd (n (sym e ∙ w.0));
   accepted = λ z. w.1;
 }
-steps-by s log home frames number r a log' home' e told (inr w) = record {
-  answer_is = told ∙ ap (λ (n : ℕ). replied n done) e;
+steps-by s log home frames r a log' home' e (inr w) = record {
+  answer_is = answered-by a ∙ ap (λ (n : ℕ). replied n done) e;
   refused = λ n. (w.1, w.2, w.3);
   accepted = λ z. absurd (w.0 (e ∙ z));
 }

@@ -16,7 +16,7 @@ use Rattle.block.specs.Legal.{slot_of}
 use Rattle.block.specs.declared.Block.{Block}
 use Rattle.promises.specs.declared.State.{State}
 use Rattle.promises.specs.declared.Dirty.{Dirty}
-use Rattle.promises.specs.Areas.{page_at, with_slot, first_half, second_half, with_first_half, with_second_half}
+use Rattle.promises.specs.Areas.{page_at, with_slot}
 use Rattle.promises.specs.Blocks.{written}
 use Rattle.promises.specs.DirtyPages.{DirtyPage, at, look_up, without}
 use Rattle.promises.specs.Contents.{dirty_of}
@@ -36,19 +36,11 @@ use Rattle.cleaning.specs.Cleans.{entry_at, cleaned_log, clean_done}
 
 -- ---- the halves
 
-module _ (home frames out : List ℕ) (page frame to : ℕ) where
-  pub first-half-stored : to ≡ page * 1024 → out ≡ splice home to 512 (part frames (frame * 1024) 512)
-      → out ≡ with_first_half home page (first_half (page_at frames frame))
-  first-half-stored t e =
-      let own : frame * 1024 + 0 ≡ frame * 1024 = omega arith in
-      e ∙ ap (λ (n : ℕ). splice home n 512 (part frames (frame * 1024) 512)) t
-      ∙ ap (splice home (page * 1024) 512) (sym (part-part frames (frame * 1024) 1024 0 512 (omega arith) ∙ ap (λ (n : ℕ). part frames n 512) own))
-
-  pub second-half-stored : to ≡ page * 1024 + 512 → out ≡ splice home to 512 (part frames (frame * 1024 + 512) 512)
-      → out ≡ with_second_half home page (second_half (page_at frames frame))
-  second-half-stored t e =
-      e ∙ ap (λ (n : ℕ). splice home n 512 (part frames (frame * 1024 + 512) 512)) t
-      ∙ ap (splice home (page * 1024 + 512) 512) (sym (part-part frames (frame * 1024) 1024 512 512 (omega arith)))
+pub half-stored : (home frames out : List ℕ) (page frame to start : ℕ) → start + 512 ≤ 1024 → to ≡ page * 1024 + start
+    → out ≡ splice home to 512 (part frames (frame * 1024 + start) 512) → out ≡ splice home (page * 1024 + start) 512 (part (page_at frames frame) start 512)
+half-stored home frames out page frame to start h t e =
+    e ∙ ap (λ (n : ℕ). splice home n 512 (part frames (frame * 1024 + start) 512)) t
+    ∙ ap (splice home (page * 1024 + start) 512) (sym (part-part frames (frame * 1024) 1024 start 512 h))
 
 -- ---- the clean block
 

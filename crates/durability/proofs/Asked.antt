@@ -41,9 +41,9 @@ log-step-asks-nothing κs s log home frames staging = tt
 pub clean-step-asks-nothing : (κs : Lfts 3) (s : State) (log home : MutBor (List ℕ)) (frames : Bor (List ℕ)) → clean-step-entry.Asked κs (s, (log, (home, (frames, tt))))
 clean-step-asks-nothing κs s log home frames = tt
 
-pub read-asks-nothing : (κs : Lfts 2) (s : State) (home frames : Bor (List ℕ)) (page : ℕ) (refusal : MutBor ℕ)
-    → read-entry.Asked κs (s, (home, (frames, (page, (refusal, tt)))))
-read-asks-nothing κs s home frames page refusal = tt
+pub read-asks-nothing : (κs : Lfts 1) (s : State) (home frames : Bor (List ℕ)) (page : ℕ)
+    → read-entry.Asked κs (s, (home, (frames, (page, tt))))
+read-asks-nothing κs s home frames page = tt
 
 pub settled-asks-nothing : (κs : Lfts 0) (s : State) (ticket : ℕ) → settled-entry.Asked κs (s, (ticket, tt))
 settled-asks-nothing κs s ticket = tt

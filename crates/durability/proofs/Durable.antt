@@ -3,14 +3,15 @@
 use mathlib.Core.Path.{subst}
 use mathlib.Core.List.{List}
 use Prim.Native.Nat.{ℕ}
-use Rattle.promises.specs.declared.Answer.{Answer}
+use Rattle.std.specs.Prelude.{Result}
+use Rattle.promises.specs.declared.Refusal.{Refusal}
 use Rattle.promises.specs.Format.{Formats}
 use Rattle.promises.specs.Open.{Opens}
 use Rattle.promises.specs.Describe.{Describes}
 use Rattle.promises.specs.LogStep.{LogSteps}
 use Rattle.promises.specs.CleanStep.{CleanSteps}
 use Rattle.promises.specs.Events.{World, Call, opening, begin, describe, ending, log_step, clean_step, reading, settling, Step}
-use Rattle.promises.specs.Answers.{Reply}
+use Rattle.promises.specs.Answers.{Reply, refusal_in}
 use Rattle.promises.specs.Corollaries.{EveryReply, TicketsInOrder, StaysSettled, AllOrNothing, NoTrace, OpensAlike}
 use Rattle.promises.specs.SilentLoss.{NoSilentLoss, SettledStored, NoOtherPages}
 use Rattle.promises.specs.Alike.{CallsAlike, DesksAlike}
@@ -77,15 +78,15 @@ step-promised (reading page) w a w' t = record {
   frames = t.frames;
   home_is = t.home_is;
   frames_are = t.frames_are;
-  number = t.refusal'.now;
-  result = t.result;
+  number = refusal_in t.result.answer;
+  result = t.result.bytes;
   promise = t.learnt;
   reply_is = t.reply_is;
   after = t.after;
 }
 step-promised (settling ticket) w a w' t = record { result = t.result; promise = t.learnt; reply_is = t.reply_is; after = t.after }
 
-format-promised : (log : List ℕ) (answer : Answer) (log' : List ℕ) → Formatted log answer log' → Formats log answer log'
+format-promised : (log : List ℕ) (answer : Result (Unit {0}) Refusal) (log' : List ℕ) → Formatted log answer log' → Formats log answer log'
 format-promised log answer log' t =
     subst (λ (x : List ℕ). Formats x answer log') t.lent_is (subst (λ (x : List ℕ). Formats t.lent.now answer x) t.left_is t.learnt)
 

@@ -2,17 +2,17 @@
 -- `ensures`: the lifetimes, the arguments at entry, the result, and the arguments at exit.
 -- Assumes nothing.
 use contract.Lifetimes.{Lfts}
+use Rattle.std.specs.Prelude.{Result, Bool}
+use Rattle.promises.specs.declared.Outcome.{Outcome}
+use Rattle.promises.specs.declared.Page.{Page}
+use Rattle.promises.specs.declared.Refusal.{Refusal}
+use Rattle.promises.specs.declared.Stop.{Stop}
+use Rattle.promises.specs.declared.Logged.{Logged as LogAnswer}
 use Rattle.std.specs.Borrow.{Bor, MutBor}
 use Rattle.std.specs.Prelude.{◌≡◌, ℕ, List}
-use Rattle.promises.specs.declared.Answer.{Answer}
-use Rattle.promises.specs.declared.Standing.{Standing}
-use Rattle.promises.specs.declared.Outcome.{Outcome}
-use Rattle.promises.specs.declared.EndOutcome.{EndOutcome}
-use Rattle.promises.specs.declared.LogOutcome.{LogOutcome}
-use Rattle.promises.specs.declared.OpenOutcome.{OpenOutcome}
 use Rattle.promises.specs.Updates.{Update}
 use Rattle.promises.specs.Events.{World, with_state, with_areas, Call, opening, begin, describe, ending, log_step, clean_step, reading, settling}
-use Rattle.promises.specs.Answers.{Reply, answered, end_answered, log_answered, open_answered, standing_answered, read_answered}
+use Rattle.promises.specs.Answers.{Reply, answered, end_answered, log_answered, open_answered, standing_answered, read_answered, refusal_in}
 use Rattle.store.proofs.format.Reads as format-entry
 use Rattle.store.proofs.open.Reads as open-entry
 use Rattle.store.proofs.begin.Reads as begin-entry
@@ -23,7 +23,7 @@ use Rattle.store.proofs.clean_step.Reads as clean-step-entry
 use Rattle.store.proofs.read.Reads as read-entry
 use Rattle.store.proofs.settled.Reads as settled-entry
 
-pub record Formatted (log : List ℕ) (answer : Answer) (log' : List ℕ) : Type 0 where
+pub record Formatted (log : List ℕ) (answer : Result (Unit {0}) Refusal) (log' : List ℕ) : Type 0 where
   pub κs : Lfts 1
   pub lent : MutBor (List ℕ)
   pub left : MutBor (List ℕ)
@@ -38,7 +38,7 @@ pub record Opened (world : World) (frames staging : List ℕ) (reply : Reply) (w
   pub lent_frames : MutBor (List ℕ)
   pub left_frames : MutBor (List ℕ)
   pub lent_staging : Bor (List ℕ)
-  pub result : OpenOutcome
+  pub result : Outcome ℕ Stop
   pub log_is : log.now ≡ world.log
   pub home_is : home.now ≡ world.home
   pub frames_are : lent_frames.now ≡ frames
@@ -49,7 +49,7 @@ pub record Opened (world : World) (frames staging : List ℕ) (reply : Reply) (w
 
 pub record Begun (world : World) (u : ℕ) (reply : Reply) (world' : World) : Type 0 where
   pub κs : Lfts 0
-  pub result : Outcome
+  pub result : Outcome (Unit {0}) Refusal
   pub learnt : begin-entry.Learnt κs (world.state, (u, tt)) result (world.state, (u, tt))
   pub reply_is : reply ≡ answered result.answer
   pub after : world' ≡ with_state world result.state
@@ -59,7 +59,7 @@ pub record Described (world : World) (update : Update) (reply : Reply) (world' :
   pub staging : MutBor (List ℕ)
   pub staging' : MutBor (List ℕ)
   pub bytes : Bor (List ℕ)
-  pub result : Outcome
+  pub result : Outcome (Unit {0}) Refusal
   pub staging_is : staging.now ≡ world.staging
   pub bytes_are : bytes.now ≡ update.bytes
   pub learnt : describe-entry.Learnt κs (world.state, (staging, (update.page, (update.offset, (bytes, tt))))) result
@@ -69,7 +69,7 @@ pub record Described (world : World) (update : Update) (reply : Reply) (world' :
 
 pub record Ended (world : World) (reply : Reply) (world' : World) : Type 0 where
   pub κs : Lfts 0
-  pub result : EndOutcome
+  pub result : Outcome ℕ Refusal
   pub learnt : end-entry.Learnt κs (world.state, tt) result (world.state, tt)
   pub reply_is : reply ≡ end_answered result.answer
   pub after : world' ≡ with_state world result.state
@@ -82,7 +82,7 @@ pub record Logged (world : World) (reply : Reply) (world' : World) : Type 0 wher
   pub frames : MutBor (List ℕ)
   pub frames' : MutBor (List ℕ)
   pub staging : Bor (List ℕ)
-  pub result : LogOutcome
+  pub result : Outcome LogAnswer Refusal
   pub log_is : log.now ≡ world.log
   pub home_is : home.now ≡ world.home
   pub frames_are : frames.now ≡ world.frames
@@ -98,7 +98,7 @@ pub record Cleaned (world : World) (reply : Reply) (world' : World) : Type 0 whe
   pub home : MutBor (List ℕ)
   pub home' : MutBor (List ℕ)
   pub frames : Bor (List ℕ)
-  pub result : Outcome
+  pub result : Outcome (Unit {0}) Refusal
   pub log_is : log.now ≡ world.log
   pub home_is : home.now ≡ world.home
   pub frames_are : frames.now ≡ world.frames
@@ -107,21 +107,19 @@ pub record Cleaned (world : World) (reply : Reply) (world' : World) : Type 0 whe
   pub after : world' ≡ with_state (with_areas world log'.now home'.now world.frames world.staging) result.state
 
 pub record Shown (world : World) (page : ℕ) (reply : Reply) (world' : World) : Type 0 where
-  pub κs : Lfts 2
+  pub κs : Lfts 1
   pub home : Bor (List ℕ)
   pub frames : Bor (List ℕ)
-  pub refusal : MutBor ℕ
-  pub refusal' : MutBor ℕ
-  pub result : Bor (List ℕ)
+  pub result : Page
   pub home_is : home.now ≡ world.home
   pub frames_are : frames.now ≡ world.frames
-  pub learnt : read-entry.Learnt κs (world.state, (home, (frames, (page, (refusal, tt))))) result (world.state, (home, (frames, (page, (refusal', tt)))))
-  pub reply_is : reply ≡ read_answered refusal'.now result.now
+  pub learnt : read-entry.Learnt κs (world.state, (home, (frames, (page, tt)))) result (world.state, (home, (frames, (page, tt))))
+  pub reply_is : reply ≡ read_answered (refusal_in result.answer) result.bytes.now
   pub after : world' ≡ world
 
 pub record Told (world : World) (ticket : ℕ) (reply : Reply) (world' : World) : Type 0 where
   pub κs : Lfts 0
-  pub result : Standing
+  pub result : Result Bool Refusal
   pub learnt : settled-entry.Learnt κs (world.state, (ticket, tt)) result (world.state, (ticket, tt))
   pub reply_is : reply ≡ standing_answered result
   pub after : world' ≡ world

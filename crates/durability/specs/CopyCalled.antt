@@ -1,10 +1,11 @@
 -- A call of a broker's copy as a step: what a caller learns of it from its contract, as in Called. Read and Settled are the desk's own.
 -- Assumes nothing.
 use contract.Lifetimes.{Lfts}
+use Rattle.promises.specs.declared.Outcome.{Outcome}
+use Rattle.promises.specs.declared.Stop.{Stop}
+use Rattle.promises.specs.declared.Fed.{Fed as FeedAnswer}
 use Rattle.std.specs.Borrow.{Bor, MutBor}
 use Rattle.std.specs.Prelude.{◌≡◌, ℕ, List, []}
-use Rattle.promises.specs.declared.FeedOutcome.{FeedOutcome}
-use Rattle.promises.specs.declared.OpenOutcome.{OpenOutcome}
 use Rattle.promises.specs.Events.{World}
 use Rattle.promises.specs.Answers.{Reply, open_answered, fed_answered}
 use Rattle.promises.specs.Copy.{CopyCall, opens, feeds, reads, asks}
@@ -18,7 +19,7 @@ pub record CopyOpened (world : World) (frames : List ℕ) (reply : Reply) (world
   pub home : Bor (List ℕ)
   pub lent_frames : MutBor (List ℕ)
   pub left_frames : MutBor (List ℕ)
-  pub result : OpenOutcome
+  pub result : Outcome ℕ Stop
   pub log_is : log.now ≡ world.log
   pub home_is : home.now ≡ world.home
   pub frames_are : lent_frames.now ≡ frames
@@ -35,7 +36,7 @@ pub record Fed (world : World) (bytes : List ℕ) (reply : Reply) (world' : Worl
   pub frames : MutBor (List ℕ)
   pub frames' : MutBor (List ℕ)
   pub block : Bor (List ℕ)
-  pub result : FeedOutcome
+  pub result : Outcome FeedAnswer Stop
   pub log_is : log.now ≡ world.log
   pub home_is : home.now ≡ world.home
   pub frames_are : frames.now ≡ world.frames

@@ -4,17 +4,19 @@ use mathlib.Core.Path.{◌≡◌, refl, sym, ap, ◌∙◌, subst}
 use mathlib.Core.Bool.{Bool, true, false, cond, ◌&&◌}
 use mathlib.Core.List.{List}
 use Prim.Native.Nat.{ℕ, ◌+◌, ◌≤◌, ◌<◌}
-use native.Mathlib.Omega.{arith}
 use lib.Dec.{eqb}
 use lib.ListN.{length}
 use borrow.Author.Tests.{ne_eqb, lt-ltb, le-ltb}
 use Rattle.block.specs.declared.Block.{Block}
 use Rattle.block.specs.declared.Judged.{Judged}
+use Rattle.block.specs.declared.Judged.TheVariants.{Unused, Damaged, Valid}
 use Rattle.block.specs.declared.Kind as format
 use Rattle.block.specs.Legal.{legal, slot_of}
 use Rattle.block.specs.Slot.{judged, block_at}
 use Rattle.block.proofs.Facts.{commit-facts}
 use Rattle.promises.specs.declared.State.{State}
+use Rattle.promises.specs.declared.Stop.{Stop}
+use Rattle.promises.specs.Answers.{number_of}
 use Rattle.promises.specs.Areas.{page_at}
 use Rattle.promises.specs.Blocks.{LogBlock, Slot, valid, slot_in, slots_of}
 use Rattle.promises.specs.Walk.{Walk, walk_block, in_order, framed}
@@ -22,6 +24,10 @@ use Rattle.promises.specs.Sound.{copy_sound}
 use Rattle.promises.specs.LogStep.{areas_fit}
 use Rattle.promises.specs.Feed.{standing, keep_right, span_fits, lacking_at, Feeding, stops, had, store_of, turned, of_next, by_sequence, feeding}
 use Rattle.feeding.specs.Tests.{turn_number}
+
+-- what comes of a block that is refused
+abbrev pub stopped-at : Stop → Feeding
+stopped-at stop = stops (number_of stop.refusal) stop.place
 
 -- a legal commit has at most 16 updates
 pub few-updates : (N P updates : ℕ) (b : Block) → legal N P b ≡ true → b.kind ≡ format.TheVariants.Commit updates → updates ≤ 16
@@ -41,15 +47,6 @@ module _ (s : State) (home : ℕ → List ℕ) (frames : List ℕ) (v : Walk) (x
       go true true = refl
       go true false = refl
       go false b = refl
-
-  pub number-few : turn_number s home v x ≤ 9
-  unfolding turn_number
-  number-few = go (in_order x.kind x.ticket v && keep_right home s.next x v && span_fits s.slots (s.next + 1) (walk_block home s.next x.kind v)) (framed s.frames home x.kind v)
-    where
-      go : (a b : Bool) → cond a (cond b 0 9) 8 ≤ 9
-      go true true = omega arith
-      go true false = omega arith
-      go false b = omega arith
 
   turn-stops : (n : ℕ) → n ≡ turn_number s home v x → (n ≡ 0 → ⊥) → turned s home frames v x ≡ stops n s.next
   turn-stops n e h = turn_is ∙ ap (λ (m : ℕ). cond (eqb m 0) (store_of s frames x.kind x) (stops m s.next)) (sym e) ∙ ap (λ (b : Bool). cond b (store_of s frames x.kind x) (stops n s.next)) (ne_eqb n 0 h)
@@ -99,3 +96,10 @@ module _ (s : State) (log home frames bytes : List ℕ) where
       → feeding s log home frames bytes ≡ by_sequence s (page_at home) frames (slots_of s.slots s.pages log) (slot_in j bytes)
   unfolding feeding
   judged-as e f j g = rw (e, f, g) refl
+
+-- bytes that are no valid block break the layout
+pub bad : (s : State) (home : ℕ → List ℕ) (frames : List ℕ) (slots : List Slot) (j : Judged) (bytes : List ℕ) → ((block : Block) → j ≡ Valid block → ⊥)
+    → by_sequence s home frames slots (slot_in j bytes) ≡ stops 13 0
+bad s home frames slots Unused bytes other = refl
+bad s home frames slots Damaged bytes other = refl
+bad s home frames slots (Valid block) bytes other = absurd (other block refl)

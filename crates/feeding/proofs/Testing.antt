@@ -1,8 +1,8 @@
 -- The tests of a fed block as the code makes them: over the numbers of its tests, slot by slot, and without the pages' bytes.
 -- Assumes nothing.
-use mathlib.Core.Path.{◌≡◌, refl, ap, ◌∙◌}
+use mathlib.Core.Path.{◌≡◌, refl, sym, ap, ◌∙◌}
 use mathlib.Core.Bool.{Bool, true, false, ◌&&◌}
-use mathlib.Core.List.{List, [], ◌∷◌, ◌++◌}
+use mathlib.Core.List.{List, [], ◌∷◌, ◌++◌, append_assoc}
 use Prim.Native.Nat.{ℕ, suc, ◌+◌, ◌-◌, ◌^◌, ◌≤◌, ◌<◌}
 use native.Mathlib.Omega.{arith}
 use native.Mathlib.Nat.{mod-lt}
@@ -98,6 +98,14 @@ marks-next frames dirty i h = rw (add-one, drop-cons dirty i free h) (go (eqb (g
         ≡ unless b (record { page = (get_or dirty i free).page; first = (get_or dirty i free).first }) [] ++ marks_of rest
     go true = refl
     go false = refl
+
+-- one turn of the loop over the frames
+pub marks-turn : (frames : List ℕ) (dirty : List Dirty) (i : ℕ) (ms ms' : List Mark) → i < length dirty → ms' ≡ ms ++ mark_of (get_or dirty i free)
+    → ms' ++ marks_of (dirty_from frames (i + 1) (drop (i + 1) dirty)) ≡ ms ++ marks_of (dirty_from frames i (drop i dirty))
+marks-turn frames dirty i ms ms' h e =
+    ap (λ (l : List Mark). l ++ marks_of (dirty_from frames (i + 1) (drop (i + 1) dirty))) e
+    ∙ append_assoc ms (mark_of (get_or dirty i free)) (marks_of (dirty_from frames (i + 1) (drop (i + 1) dirty)))
+    ∙ ap (λ (l : List Mark). ms ++ l) (sym (marks-next frames dirty i h))
 
 pub marks-end : (frames : List ℕ) (dirty : List Dirty) (i : ℕ) → length dirty ≤ i → marks_of (dirty_from frames i (drop i dirty)) ≡ []
 unfolding dirty_from

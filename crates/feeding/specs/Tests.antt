@@ -1,10 +1,12 @@
 -- The tests of a fed block in the order in which the code makes them, beside those of the promise, and what a decision stands for.
 -- Assumes nothing.
-use Rattle.std.specs.Prelude.{ℕ, ◌+◌, ◌≤◌, ◌≡◌, cond, ◌&&◌, List, [], eqb}
+use Rattle.std.specs.Prelude.{ℕ, ◌+◌, ◌≤◌, ◌≡◌, cond, ◌&&◌, List, [], eqb, Option, None, Some, Result, Ok, Err}
 use Rattle.block.specs.declared.Block.{Block}
 use Rattle.block.specs.declared.Kind as format
 use Rattle.promises.specs.declared.State.{State}
 use Rattle.promises.specs.declared.Dirty.{Dirty}
+use Rattle.promises.specs.declared.Stop.{Stop}
+use Rattle.promises.specs.Answers.{number_of}
 use Rattle.promises.specs.Areas.{page_at}
 use Rattle.promises.specs.Blocks.{Kind, LogBlock, valid, kind_in, slots_of}
 use Rattle.promises.specs.Contents.{unless}
@@ -13,7 +15,7 @@ use Rattle.promises.specs.Walk.{Walk, walk_block, in_order, framed}
 use Rattle.promises.specs.Feed.{lacking, standing, keep_right, span_fits, Feeding, stops, had, store_of, by_sequence}
 use Rattle.outline.specs.declared.Mark.{Mark}
 use Rattle.feeding.specs.declared.Decision.{Decision}
-use Rattle.feeding.specs.declared.Decision.TheVariants.{Bad, Ahead, Stops, Had, Passes}
+use Rattle.feeding.specs.declared.Decision.TheVariants.{Had, Passes}
 
 -- the page that an update changes; 0 for another block
 abbrev pub page_of : format.Kind → ℕ
@@ -32,6 +34,11 @@ start_of state = cond (eqb state.stored 0) 0 (group_start state)
 -- the lowest update of the half group that this log lacks; 0 where it lacks none
 abbrev pub lacking_in : State → List ℕ → ℕ
 lacking_in state log = lacking state.slots (slots_of state.slots state.pages log) state.stored (group_start state) 1
+
+-- the lowest update that is lacking, none of them below this sequence; 0 stands for none
+abbrev pub Lacks : Option ℕ → ℕ → ℕ → Type 0
+Lacks None least lacking = lacking ≡ 0
+Lacks (Some lost) least lacking = (lost ≡ lacking) × (least ≤ lost)
 
 -- what the tests of the block of sequence next give: 8, then 9; 0 where it passes
 unfoldable pub turn_number : State → (ℕ → List ℕ) → Walk → LogBlock → ℕ
@@ -57,9 +64,7 @@ of_valid state log home frames block bytes =
     by_sequence state (page_at home) frames (slots_of state.slots state.pages log) (valid block.sequence (block_in block bytes))
 
 -- a decision stands for what comes of the block; of one that passes, which store is next is still to be seen
-abbrev pub Decides : State → List ℕ → List ℕ → Decision → Feeding → Type 0
-Decides state frames bytes Bad outcome = outcome ≡ stops 13 0
-Decides state frames bytes Ahead outcome = outcome ≡ stops 14 0
-Decides state frames bytes (Stops number place) outcome = (outcome ≡ stops number place) × (1 ≤ number) × (number ≤ 11)
-Decides state frames bytes Had outcome = outcome ≡ had
-Decides state frames bytes (Passes block) outcome = outcome ≡ store_of state frames (kind_in block.kind bytes) (block_in block bytes)
+abbrev pub Decides : State → List ℕ → List ℕ → Result Decision Stop → Feeding → Type 0
+Decides state frames bytes (Err stop) outcome = outcome ≡ stops (number_of stop.refusal) stop.place
+Decides state frames bytes (Ok Had) outcome = outcome ≡ had
+Decides state frames bytes (Ok (Passes block)) outcome = outcome ≡ store_of state frames (kind_in block.kind bytes) (block_in block bytes)

@@ -4,28 +4,26 @@
 
 use block::Block;
 use promises::State;
-
-// Standard output.
-const STDOUT: i32 = 1;
+use std::io;
 
 // Prints the first ten bytes of a page, as the store shows it.
-fn show<'a>(state: State, home: &'a [u8], frames: &'a [u8], page: usize) {
-    let mut refusal = 0;
-    let bytes = store::read(state, home, frames, page, &mut refusal);
-    if (refusal == 0) & (10 <= bytes.len()) {
-        io::write_all(STDOUT, b" ");
-        io::write_all(STDOUT, &bytes[..10]);
+fn show(rt: &impl Print, state: State, home: &[u8], frames: &[u8], page: usize) -> io::Result<()> {
+    let page = store::read(state, home, frames, page);
+    if page.answer.is_ok() && 10 <= page.bytes.len() {
+        print!(rt; " ")?;
+        rt.write_all(&page.bytes[..10])?;
     }
+    Ok(())
 }
 
 // Makes the transaction, cuts the power after `blocks` of its blocks, opens again and prints both pages.
-fn cut_after(blocks: u64) {
+fn cut_after(rt: &impl Print, blocks: u64) -> io::Result<()> {
     // A log of 8 slots and a home of 4 pages, on a device; 2 frames and their staging areas, in memory.
     let mut log = [0; 8 * Block::SIZE];
     let home = [b'-'; 4 * Block::PAGE];
     let mut frames = [0; 2 * Block::PAGE];
     let mut staging = [0; 2 * Block::NEW_BYTES];
-    store::format(&mut log);
+    let _ = store::format(&mut log);
     let opened = store::open(&log, &home, &mut frames, &staging);
 
     // Two updates; their commit makes three blocks. Each Log step stores one.
@@ -34,28 +32,24 @@ fn cut_after(blocks: u64) {
     let accrued = store::describe(dated.state, &mut staging, 1, 0, b"1.25");
     let ended = store::end(accrued.state);
     let mut state = ended.state;
-    let mut left = blocks;
-    while 0 < left {
+    for _ in 0..blocks {
         let logged = store::log_step(state, &mut log, &home, &mut frames, &staging);
         state = logged.state;
-        left -= 1;
     }
 
     // The power is cut: the state is lost, and so is what frames and staging held. Log and home are left.
     frames = [255; 2 * Block::PAGE];
     staging = [255; 2 * Block::NEW_BYTES];
     let reopened = store::open(&log, &home, &mut frames, &staging);
-    io::print_decimal(STDOUT, blocks);
-    io::write_all(STDOUT, b" blocks stored:");
-    show(reopened.state, &home, &frames, 0);
-    show(reopened.state, &home, &frames, 1);
-    io::write_all(STDOUT, b"\n");
+    print!(rt; "{blocks} blocks stored:")?;
+    show(rt, reopened.state, &home, &frames, 0)?;
+    show(rt, reopened.state, &home, &frames, 1)?;
+    println!(rt; "")
 }
 
-fn main() {
-    let mut blocks = 0;
-    while blocks <= 3 {
-        cut_after(blocks);
-        blocks += 1;
+fn main(rt: HostRuntime) -> io::Result<()> {
+    for blocks in 0..=3 {
+        cut_after(&rt, blocks)?;
     }
+    Ok(())
 }

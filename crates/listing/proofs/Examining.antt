@@ -1,11 +1,12 @@
 -- An examination of a log, from the scan of its slots, the search for a missing block and the walk without bytes.
 -- Assumes nothing.
-use mathlib.Core.Path.{◌≡◌, refl, sym, ap, ◌∙◌, subst}
+use mathlib.Core.Path.{◌≡◌, sym, ap, ◌∙◌, subst}
 use mathlib.Core.Bool.{Bool, true, false, cond}
 use mathlib.Core.List.{List, []}
 use Prim.Native.Nat.{ℕ, ◌+◌, ◌-◌, ◌*◌, ◌/◌, ◌^◌, ◌≤◌, ◌<◌}
 use native.Mathlib.Omega.{arith}
 use native.Mathlib.Nat.{mod-lt}
+use lib.Dec.{eqb}
 use lib.ListN.{length, get_or}
 use borrow.Author.Tests.{eq-eqb, ne_eqb, le-leb}
 use Rattle.area.proofs.Laws.{and2, either}
@@ -15,6 +16,10 @@ use Rattle.block.specs.declared.Block.{Block}
 use Rattle.block.specs.declared.Kind.{Kind}
 use Rattle.block.specs.declared.Kind.TheVariants.{Update, Commit, Clean}
 use Rattle.block.proofs.Facts.{facts, Facts}
+use Rattle.std.specs.Prelude.{Result, Ok, Err}
+use Rattle.promises.specs.declared.Stop.{Stop}
+use Rattle.promises.specs.Answers.{number_of}
+use Rattle.opening.specs.Findings.{missing_at}
 use Rattle.promises.specs.Areas.{slots_in}
 use Rattle.promises.specs.Blocks.{slot_at, slots_of}
 use Rattle.promises.specs.Newest.{sequence_in, blocks, all_unused, is_damaged}
@@ -26,9 +31,7 @@ use Rattle.recovery.specs.Slots.{Scanned, standing, Lowest}
 use Rattle.outline.specs.declared.Course.{Course}
 use Rattle.outline.specs.Outline as outline
 use Rattle.outline.specs.Outline.{Outline, sketch_of, outline_in, sketch_in, steps, ended, started, Indexed, Ordinary}
-use Rattle.outline.proofs.Turning.{sketch-going, sketch-refused}
-use Rattle.listing.specs.declared.Examined.{Examined}
-use Rattle.listing.specs.Listing.{found, shown_length, headers_from, blocks_shown, refused_with, Examines}
+use Rattle.listing.specs.Listing.{found, shown_length, headers_from, Examines}
 use Rattle.listing.proofs.Finding.{
   from-stops,
   from-stands,
@@ -60,18 +63,9 @@ ordinary slots pages block h =
 
 -- ---- a log that is refused
 
--- an examination that tells the refusal that is found
-told : (log : List ℕ) (examined : Examined) (refusal place : ℕ) → (refusal ≡ 0 → ⊥) → examined ≡ refused_with refusal place → found log ≡ stops refusal place
-    → Examines log examined
-told log examined refusal place n r e = subst (λ (x : Examined). Examines log x) (sym r) (record {
-  refused = λ z. record { found_is = e; newest_is = refl; keep_is = refl; ticket_is = refl };
-  accepted = λ z. absurd (n z);
-})
-
-pub refused-length : (log : List ℕ) (examined : Examined) → shown_length (length log) ≡ false → examined ≡ refused_with 1 0 → Examines log examined
+pub refused-length : (log : List ℕ) → shown_length (length log) ≡ false → found log ≡ stops 1 0
 unfolding found
-refused-length log examined h r =
-    told log examined 1 0 (λ z. omega arith) r (ap (λ (t : Bool). cond t (finding (slots_in (length log)) 4096 32 log []) (stops 1 0)) h)
+refused-length log h = ap (λ (t : Bool). cond t (finding (slots_in (length log)) 4096 32 log []) (stops 1 0)) h
 
 -- ---- a log of so many slots, scanned
 
@@ -89,9 +83,8 @@ module _ (log : List ℕ) (n : ℕ) (long : length log ≡ n * 512) (least : 8 �
   unfolding found
   found-is = ap (λ (t : Bool). cond t (finding (slots_in (length log)) 4096 32 log []) (stops 1 0)) fits
 
-  refuses : (examined : Examined) (refusal place : ℕ) → (refusal ≡ 0 → ⊥) → examined ≡ refused_with refusal place
-      → sketch_of (finding (slots_in (length log)) 4096 32 log []) ≡ outline.stops refusal place → Examines log examined
-  refuses examined refusal place n r e = told log examined refusal place n r (found-is ∙ from-stops _ refusal place e)
+  refuses : (stop : Stop) → sketch_of (finding (slots_in (length log)) 4096 32 log []) ≡ outline.stops (number_of stop.refusal) stop.place → Examines log (Err stop)
+  refuses stop e = found-is ∙ from-stops _ (number_of stop.refusal) stop.place e
 
   module _ (scan : Scan) (sequences : List ℕ) (wide : length sequences ≡ n) (scanned : Scanned n 4096 log scan sequences) where
     scan-is : Scanned (slots_in (length log)) 4096 log scan sequences
@@ -103,35 +96,28 @@ module _ (log : List ℕ) (n : ℕ) (long : length log ≡ n * 512) (least : 8 �
         ∙ scan-is.sequences_are (slot_of (slots_in (length log)) s) (mod-lt s (omega arith))
 
     -- no block
-    pub examines-fresh : (examined : Examined) → scan.unused ≡ true → examined ≡ refused_with 0 0 → Examines log examined
+    pub examines-fresh : scan.unused ≡ true → Examines log (Ok (record { newest = 0; keep = 0; ticket = 0 }))
     unfolding blocks_from
-    examines-fresh examined e r =
+    examines-fresh e =
         let unused : all_unused (slots_of (slots_in (length log)) 4096 log) ≡ true = sym scan-is.unused_is ∙ e in
-        let w = from-stands (finding (slots_in (length log)) 4096 32 log []) 1 _ (found-fresh log big unused) in
-        subst (λ (x : Examined). Examines log x) (sym r)
-        (record {
-          refused = λ n. absurd (n refl);
-          accepted = λ z. (
-            fits,
-            record {
-              walk = w.0;
-              found_is = found-is ∙ w.1;
-              place_is = refl;
-              keep_is = sym (keep-fresh log big unused);
-              ticket_is = sym (ap (λ (o : Outline). o.ticket) w.2);
-              blocks_are = gathered-fresh _ _ unused;
-              keep_most = omega arith;
-              newest_below = omega arith;
-              blocks_few = omega arith;
-              legal_are = λ i h. absurd (omega arith);
-            },
-          );
-        })
+        let w = from-stands (finding (slots_in (length log)) 4096 32 log []) 1 _ (found-fresh log big unused) in (
+          fits,
+          record {
+            walk = w.0;
+            found_is = found-is ∙ w.1;
+            keep_is = sym (keep-fresh log big unused);
+            ticket_is = sym (ap (λ (o : Outline). o.ticket) w.2);
+            blocks_are = gathered-fresh _ _ unused;
+            keep_most = omega arith;
+            newest_below = omega arith;
+            blocks_few = omega arith;
+            legal_are = λ i h. absurd (omega arith);
+          },
+        )
 
     -- no valid slot but a damaged one
-    pub examines-damaged : (examined : Examined) → scan.newest ≡ 0 → scan.unused ≡ false → examined ≡ refused_with 7 0 → Examines log examined
-    examines-damaged examined z e r =
-        refuses examined 7 0 (λ q. omega arith) r (found-damaged log big (sym scan-is.unused_is ∙ e) (sym scan-is.newest_is ∙ z))
+    pub examines-damaged : (stop : Stop) → scan.newest ≡ 0 → scan.unused ≡ false → stop ≡ missing_at 0 → Examines log (Err stop)
+    examines-damaged stop z e r = rw r (refuses (missing_at 0) (found-damaged log big (sym scan-is.unused_is ∙ e) (sym scan-is.newest_is ∙ z)))
 
     module _ (some : scan.newest ≡ 0 → ⊥) (keep : ℕ) (keep-is : keep ≡ (header_of log scan.newest).keep_from) where
       newest-facts : Facts (slots_in (length log)) 4096 (header_of log scan.newest) × ((header_of log scan.newest).sequence ≡ scan.newest)
@@ -153,11 +139,11 @@ module _ (log : List ℕ) (n : ℕ) (long : length log ≡ n * 512) (least : 8 �
 
       module _ (lost : ℕ) (lowest : Lowest sequences keep scan.newest lost) where
         -- a block is missing
-        pub examines-lost : (examined : Examined) → lost ≤ scan.newest → examined ≡ refused_with 7 lost → Examines log examined
-        examines-lost examined h r =
-            refuses examined 7 lost (λ q. omega arith) r
+        pub examines-lost : (stop : Stop) → lost ≤ scan.newest → stop ≡ missing_at lost → Examines log (Err stop)
+        examines-lost stop h r =
+            rw r (refuses (missing_at lost)
             (found-missing log big scan.newest keep scan-is.newest_is keep-is some lost keep-range.0 keep-range.1 lowest.least h
-            (λ s x y. sym (stands-there s) ∙ lowest.stand s x y) (λ e. lowest.lacks h (stands-there lost ∙ e)))
+            (λ s x y. sym (stands-there s) ∙ lowest.stand s x y) (λ e. lowest.lacks h (stands-there lost ∙ e))))
 
         module _ (none : scan.newest < lost) where
           all-stand : (s : ℕ) → keep ≤ s → s ≤ scan.newest → Stands log big s
@@ -170,53 +156,44 @@ module _ (log : List ℕ) (n : ℕ) (long : length log ≡ n * 512) (least : 8 �
           ordinary-at s x y = ordinary (slots_in (length log)) 4096 (header_of log s) (legal-at s x y).0
 
           -- the slot after the newest is damaged
-          pub examines-end : (examined : Examined) (end : Bool) → end ≡ is_damaged (slot_at (slots_in (length log)) 4096 log (slot_of (slots_in (length log)) (scan.newest + 1))) → end ≡ true
-              → examined ≡ refused_with 7 (scan.newest + 1) → Examines log examined
-          examines-end examined end e d r =
-              refuses examined 7 (scan.newest + 1) (λ q. omega arith) r
-              (found-end log big scan.newest keep scan-is.newest_is keep-is some keep-range.0 keep-range.1 all-stand (sym e ∙ d))
+          pub examines-end : (stop : Stop) (end : Bool) → end ≡ is_damaged (slot_at (slots_in (length log)) 4096 log (slot_of (slots_in (length log)) (scan.newest + 1))) → end ≡ true
+              → stop ≡ missing_at (scan.newest + 1) → Examines log (Err stop)
+          examines-end stop end e d r =
+              rw r (refuses (missing_at (scan.newest + 1))
+              (found-end log big scan.newest keep scan-is.newest_is keep-is some keep-range.0 keep-range.1 all-stand (sym e ∙ d)))
 
-          module _ (end : Bool) (is-end : end ≡ is_damaged (slot_at (slots_in (length log)) 4096 log (slot_of (slots_in (length log)) (scan.newest + 1)))) (whole : end ≡ false) (course : Course)
-              (walked : sketch_in course ≡ ended n (steps 32 (headers_from log keep (scan.newest + 1 - keep)) (started keep (header_of log keep).ticket))) where
-            found-course : sketch_of (finding (slots_in (length log)) 4096 32 log []) ≡ sketch_in course
-            found-course =
+          module _ (end : Bool) (is-end : end ≡ is_damaged (slot_at (slots_in (length log)) 4096 log (slot_of (slots_in (length log)) (scan.newest + 1)))) (whole : end ≡ false) where
+            found-course : (result : Result Course Stop) → sketch_in result ≡ ended n (steps 32 (headers_from log keep (scan.newest + 1 - keep)) (started keep (header_of log keep).ticket))
+                → sketch_of (finding (slots_in (length log)) 4096 32 log []) ≡ sketch_in result
+            found-course result walked =
                 found-blocks log big scan.newest keep scan-is.newest_is keep-is some keep-range.0 keep-range.1 all-stand (sym is-end ∙ whole)
                 ∙ ap (λ (k : ℕ). ended k (steps 32 (headers_from log keep (scan.newest + 1 - keep)) (started keep (header_of log keep).ticket))) slots-are
                 ∙ sym walked
 
-            -- the walk is refused
-            pub examines-refused : (examined : Examined) → (course.refusal ≡ 0 → ⊥) → examined ≡ refused_with course.refusal course.place
-                → Examines log examined
-            examines-refused examined h r = refuses examined course.refusal course.place h r (found-course ∙ sketch-refused course h)
+            -- the walk is refused, or the last test refuses it
+            pub examines-refused : (stop : Stop) → sketch_in (Err stop) ≡ ended n (steps 32 (headers_from log keep (scan.newest + 1 - keep)) (started keep (header_of log keep).ticket))
+                → Examines log (Err stop)
+            examines-refused stop walked = refuses stop (found-course (Err stop) walked)
 
             -- the walk stands
-            pub examines-accepted : (examined : Examined) → course.refusal ≡ 0 → examined.refusal ≡ 0 → examined.place ≡ 0 → examined.newest ≡ scan.newest
-                → examined.keep ≡ keep → examined.ticket ≡ course.ticket → Examines log examined
-            examines-accepted examined h r p m k t =
-                let stood = sketch-going course h in
-                let w = from-stands (finding (slots_in (length log)) 4096 32 log []) course.place (outline_in course) (found-course ∙ stood) in
-                let place : course.place ≡ scan.newest + 1 = ended-place n log keep scan.newest (header_of log keep).ticket course.place (outline_in course) keep-range.1 (sym walked ∙ stood) in
-                let shown : blocks_shown examined ≡ scan.newest + 1 - keep =
-                ap (λ (b : Bool). cond b 0 (examined.newest + 1 - examined.keep)) (ne_eqb _ _ (λ z. some (sym m ∙ z))) ∙ cc in
-                record {
-                  refused = λ z. absurd (z r);
-                  accepted = λ z. (
-                    fits,
-                    record {
-                      walk = w.0;
-                      found_is = found-is ∙ w.1 ∙ ap (λ (x : ℕ). stands x w.0) (omega arith);
-                      place_is = p;
-                      keep_is = k ∙ sym (keep-shown log big scan.newest keep scan-is.newest_is keep-is some);
-                      ticket_is = t ∙ sym (ap (λ (o : Outline). o.ticket) w.2);
-                      blocks_are =
-                          gathered-blocks log big scan.newest keep scan-is.newest_is keep-is some keep-range.0 keep-range.1 all-stand (sym is-end ∙ whole)
-                          ∙ ap (λ (x : ℕ). blocks (blocks_from log keep x)) (sym shown)
-                          ∙ ap (λ (x : ℕ). blocks (blocks_from log x (blocks_shown examined))) (sym k);
-                      keep_most = omega (arith, keep-range.1);
-                      newest_below = omega (arith, keep-range.2);
-                      blocks_few = omega (arith, shown, keep-range.3);
-                      legal_are = λ i l. subst (λ (x : ℕ). (legal (slots_in (length log)) 4096 (header_of log (x + i)) ≡ true) × ((header_of log (x + i)).sequence ≡ x + i)) (sym k)
-                          (legal-at (keep + i) (omega arith) (omega (arith, shown, keep-range.1)));
-                    },
-                  );
-                }
+            pub examines-accepted : (course : Course) → sketch_in (Ok course) ≡ ended n (steps 32 (headers_from log keep (scan.newest + 1 - keep)) (started keep (header_of log keep).ticket))
+                → Examines log (Ok (record { newest = scan.newest; keep = keep; ticket = course.ticket }))
+            examines-accepted course walked =
+                let w = from-stands (finding (slots_in (length log)) 4096 32 log []) course.next (outline_in course) (found-course (Ok course) walked) in
+                let place : course.next ≡ scan.newest + 1 = ended-place n log keep scan.newest (header_of log keep).ticket course.next (outline_in course) keep-range.1 (sym walked) in
+                let shown : cond (eqb scan.newest 0) 0 (scan.newest + 1 - keep) ≡ scan.newest + 1 - keep = ap (λ (b : Bool). cond b 0 (scan.newest + 1 - keep)) (ne_eqb _ _ some) in (
+                  fits,
+                  record {
+                    walk = w.0;
+                    found_is = found-is ∙ w.1 ∙ ap (λ (x : ℕ). stands x w.0) (omega arith);
+                    keep_is = sym (keep-shown log big scan.newest keep scan-is.newest_is keep-is some);
+                    ticket_is = sym (ap (λ (o : Outline). o.ticket) w.2);
+                    blocks_are =
+                        gathered-blocks log big scan.newest keep scan-is.newest_is keep-is some keep-range.0 keep-range.1 all-stand (sym is-end ∙ whole)
+                        ∙ ap (λ (x : ℕ). blocks (blocks_from log keep x)) (sym shown);
+                    keep_most = omega (arith, keep-range.1);
+                    newest_below = omega (arith, keep-range.2);
+                    blocks_few = omega (arith, shown, keep-range.3);
+                    legal_are = λ i l. legal-at (keep + i) (omega arith) (omega (arith, shown, keep-range.1));
+                  },
+                )

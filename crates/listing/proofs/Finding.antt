@@ -38,7 +38,7 @@ use Rattle.outline.specs.Outline.{
 }
 use Rattle.outline.specs.Marks.{earliest}
 use Rattle.outline.proofs.Turning.{turned-update}
-use Rattle.outline.proofs.Alike.{form_of, fields_from, walk-alike, home-not-needed}
+use Rattle.outline.proofs.Alike.{form_of, fields_from, steps-stopped, walk-alike, home-not-needed}
 use Rattle.listing.specs.Listing.{headers_from}
 
 -- ---- the fields of blocks, with their offsets and lengths or without
@@ -74,6 +74,17 @@ steps_next log sequence last sketch sketch' h e =
 pub steps-end : (log : List ℕ) (sequence last : ℕ) (sketch : Sketch) → last < sequence → steps 32 (headers_from log sequence (last + 1 - sequence)) sketch ≡ sketch
 unfolding steps headers_from
 steps-end log sequence last sketch h = let p : last + 1 - sequence ≡ 0 = omega arith in rw p
+
+-- a walk that is refused at a block stays so
+pub steps-refused : (log : List ℕ) (sequence last : ℕ) (sketch : Sketch) (refusal place : ℕ) → sequence ≤ last → stops refusal place ≡ step 32 (header_of log sequence) sketch
+    → stops refusal place ≡ steps 32 (headers_from log sequence (last + 1 - sequence)) sketch
+steps-refused log sequence last sketch refusal place h e =
+    sym (steps-stopped 32 (headers_from log (sequence + 1) (last + 1 - (sequence + 1))) refusal place) ∙ steps_next log sequence last sketch (stops refusal place) h e
+
+-- the last test leaves a refused walk as it is
+pub ended-stopped : (slots refusal place : ℕ) → stops refusal place ≡ ended slots (stops refusal place)
+unfolding ended
+ended-stopped slots refusal place = refl
 
 -- a walk that stands after so many blocks is so many places further
 steps-place : (list : List Block) (sequence : ℕ) (outline : Outline) (next : ℕ) (outline' : Outline) → steps 32 list (stands sequence outline) ≡ stands next outline'

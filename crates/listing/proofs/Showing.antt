@@ -7,7 +7,6 @@ use Prim.Native.Nat.{ℕ, zero, suc, ◌+◌, ◌-◌, ◌*◌, ◌/◌, ◌≤�
 use native.Mathlib.Omega.{arith}
 use lib.ListN.{length, get_or}
 use borrow.Author.Tests.{eq-eqb, ne_eqb}
-use Rattle.area.proofs.Laws.{either}
 use Rattle.area.proofs.Parts.{length_part}
 use Rattle.block.specs.Kind.{length_of, update_block}
 use Rattle.block.specs.Legal.{legal}
@@ -15,6 +14,9 @@ use Rattle.block.specs.declared.Kind as format
 use Rattle.block.specs.declared.Kind.TheVariants.{Update, Commit, Clean}
 use Rattle.block.proofs.Facts.{facts, Facts}
 use Rattle.block.proofs.Tests.{tests}
+use Rattle.std.specs.Prelude.{Result, Ok, Err}
+use Rattle.promises.specs.declared.Stop.{Stop}
+use Rattle.promises.specs.Answers.{number_of}
 use Rattle.promises.specs.Areas.{slots_in}
 use Rattle.promises.specs.Blocks.{fields_of, kind_in}
 use Rattle.promises.specs.Newest.{Gathered}
@@ -58,11 +60,20 @@ line_at log keep (suc count) (suc i) h = line_at log (suc keep) count i (omega a
 
 -- ---- the lines of a log
 
-module _ (log : List ℕ) (examined : Examined) where
-  pub lines-refused : found log ≡ stops examined.refusal examined.place → lines_of log ≡ refused_line examined.refusal examined.place ∷ []
+module _ (log : List ℕ) (refusal place : ℕ) (e : found log ≡ stops refusal place) where
+  pub lines-refused : lines_of log ≡ refused_line refusal place ∷ []
   unfolding lines_of
-  lines-refused e = ap (lines_in log) e
+  lines-refused = ap (lines_in log) e
 
+  pub count-refused : 1 ≡ length (lines_of log)
+  count-refused = ap length (sym lines-refused)
+
+  pub refused-shown : (index : ℕ) → index < length (lines_of log) → refused_line refusal place ≡ get_or (lines_of log) index []
+  refused-shown index h =
+      let z : index ≡ 0 = omega (arith, count-refused) in
+      sym (ap (λ (ls : List (List ℕ)). get_or ls index []) lines-refused ∙ ap (λ (i : ℕ). get_or (refused_line refusal place ∷ []) i []) z)
+
+module _ (log : List ℕ) (examined : Examined) where
   pub lines-accepted : Accepts log examined
       → lines_of log
       ≡ first_line (slots_in (length log)) examined.newest examined.keep examined.ticket ∷ lines_from examined.keep (blocks_from log examined.keep (blocks_shown examined))
@@ -77,18 +88,8 @@ module _ (log : List ℕ) (examined : Examined) where
       same : examined.newest + 1 - 1 ≡ examined.newest
       same = omega arith
 
-  pub count-refused : found log ≡ stops examined.refusal examined.place → 1 ≡ length (lines_of log)
-  count-refused e = ap length (sym (lines-refused e))
-
   pub count-accepted : Accepts log examined → length (lines_of log) ≡ suc (blocks_shown examined)
   count-accepted a = ap length (lines-accepted a) ∙ ap suc (lines-length log examined.keep (blocks_shown examined))
-
-  -- at most the first line and 128 blocks
-  pub lines-few : Examines log examined → length (lines_of log) ≤ 129
-  lines-few x =
-      either examined.refusal 1
-      (λ h. let a : Accepts log examined = (x.accepted (omega arith)).1 in omega (arith, count-accepted a, a.blocks_few))
-      (λ h. omega (arith, count-refused (x.refused (λ z. omega arith)).found_is))
 
   pub first-shown : Accepts log examined → (index : ℕ) → index ≡ 0
       → first_line (slots_in (length log)) examined.newest examined.keep examined.ticket ≡ get_or (lines_of log) index []
@@ -106,18 +107,17 @@ module _ (log : List ℕ) (examined : Examined) where
       ∙ sym (line_at log examined.keep (blocks_shown examined) i few)
       ∙ sym (ap (λ (ls : List (List ℕ)). get_or ls (suc i) []) (lines-accepted a))
 
-  pub refused-shown : found log ≡ stops examined.refusal examined.place → (index : ℕ) → index < length (lines_of log)
-      → refused_line examined.refusal examined.place ≡ get_or (lines_of log) index []
-  refused-shown e index h =
-      let z : index ≡ 0 = omega (arith, count-refused e) in
-      sym (ap (λ (ls : List (List ℕ)). get_or ls index []) (lines-refused e) ∙ ap (λ (i : ℕ). get_or (refused_line examined.refusal examined.place ∷ []) i []) z)
-
   -- how many blocks are shown
   pub shown-none : examined.newest ≡ 0 → blocks_shown examined ≡ 0
   shown-none z = ap (λ (b : Bool). cond b 0 (examined.newest + 1 - examined.keep)) (eq-eqb _ _ z)
 
   pub shown-some : (examined.newest ≡ 0 → ⊥) → blocks_shown examined ≡ examined.newest + 1 - examined.keep
   shown-some n = ap (λ (b : Bool). cond b 0 (examined.newest + 1 - examined.keep)) (ne_eqb _ _ n)
+
+-- at most the first line and 128 blocks
+pub lines-few : (log : List ℕ) (examined : Result Examined Stop) → Examines log examined → length (lines_of log) ≤ 129
+lines-few log (Ok examined) x = omega (arith, count-accepted log examined x.1, x.1.blocks_few)
+lines-few log (Err stop) x = omega (arith, count-refused log (number_of stop.refusal) stop.place x)
 
 -- ---- lengths
 

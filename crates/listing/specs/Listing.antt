@@ -1,10 +1,12 @@
 -- What `logshow` lists: the lines of a log, by what Open finds in it with P 4,096 and F 32.
 -- Assumes nothing.
-use Rattle.std.specs.Prelude.{ℕ, zero, suc, ◌+◌, ◌-◌, ◌*◌, ◌≤◌, ◌<◌, ◌≡◌, Bool, true, cond, ◌&&◌, length, eqb, leb}
+use Rattle.std.specs.Prelude.{ℕ, zero, suc, ◌+◌, ◌-◌, ◌*◌, ◌≤◌, ◌<◌, ◌≡◌, Bool, true, cond, ◌&&◌, length, eqb, leb, Result, Ok, Err}
 use mathlib.Core.List.{List, [], ◌∷◌, flatten}
 use Rattle.block.specs.Sizes.{block_size, sequence_end}
 use Rattle.block.specs.Legal.{legal}
 use Rattle.block.specs.declared.Block.{Block}
+use Rattle.promises.specs.declared.Stop.{Stop}
+use Rattle.promises.specs.Answers.{number_of}
 use Rattle.promises.specs.Areas.{whole, slots_in}
 use Rattle.promises.specs.Blocks.{LogBlock, slots_of}
 use Rattle.promises.specs.Newest.{Gathered, missing, blocks, keep_of, gathered}
@@ -76,22 +78,10 @@ headers_from log sequence (suc more) = header_of log sequence ∷ headers_from l
 abbrev pub blocks_shown : Examined → ℕ
 blocks_shown examined = cond (eqb examined.newest 0) 0 (examined.newest + 1 - examined.keep)
 
--- an examination that tells a refusal and its place, and nothing else; with 0 and 0, of a log without a block
-abbrev pub refused_with : ℕ → ℕ → Examined
-refused_with refusal place = record { refusal = refusal; place = place; newest = 0; keep = 0; ticket = 0 }
-
--- a refused log: the refusal and its place; newest, keep and ticket are 0
-pub record Refuses (log : List ℕ) (examined : Examined) : Type 0 where
-  pub found_is : found log ≡ stops examined.refusal examined.place
-  pub newest_is : examined.newest ≡ 0
-  pub keep_is : examined.keep ≡ 0
-  pub ticket_is : examined.ticket ≡ 0
-
--- an accepted log: next - 1, k and the last committed ticket, and the blocks k to M, each legal in its slot; the place is 0
+-- an accepted log: next - 1, k and the last committed ticket, and the blocks k to M, each legal in its slot
 pub record Accepts (log : List ℕ) (examined : Examined) : Type 0 where
   pub walk : Walk
   pub found_is : found log ≡ stands (examined.newest + 1) walk
-  pub place_is : examined.place ≡ 0
   pub keep_is : examined.keep ≡ keep_shown log
   pub ticket_is : examined.ticket ≡ walk.ticket
   pub blocks_are : gathered_in log ≡ blocks (blocks_from log examined.keep (blocks_shown examined))
@@ -101,7 +91,7 @@ pub record Accepts (log : List ℕ) (examined : Examined) : Type 0 where
   pub legal_are : (i : ℕ) → i < blocks_shown examined
       → (legal (slots_in (length log)) pages_shown (header_of log (examined.keep + i)) ≡ true) × ((header_of log (examined.keep + i)).sequence ≡ examined.keep + i)
 
--- an examined log is refused, or accepted with refusal 0
-pub record Examines (log : List ℕ) (examined : Examined) : Type 0 where
-  pub refused : (examined.refusal ≡ 0 → ⊥) → Refuses log examined
-  pub accepted : examined.refusal ≡ 0 → (shown_length (length log) ≡ true) × Accepts log examined
+-- an examined log is accepted, or refused with the refusal and the place that are found
+abbrev pub Examines : List ℕ → Result Examined Stop → Type 0
+Examines log (Ok examined) = (shown_length (length log) ≡ true) × Accepts log examined
+Examines log (Err stop) = found log ≡ stops (number_of stop.refusal) stop.place

@@ -2,16 +2,18 @@
 // as one text. No home, no frames and no staging are needed.
 #![tactic(auto)]
 
-ghost use Rattle.std.specs.Prelude.{◌≡◌, ℕ, ◌+◌, ◌-◌, ◌*◌, ◌≤◌, ◌<◌, length, get_or, []};
+ghost use Rattle.std.specs.Prelude.{◌≡◌, ℕ, ◌+◌, ◌-◌, ◌*◌, ◌≤◌, ◌<◌, length, get_or, [], IfOk};
 ghost use Rattle.io.specs.Counts.{IsPrefixLen};
 ghost use Rattle.block.specs.Sizes.{block_size, sequence_end};
 ghost use Rattle.recovery.specs.Log.{header_of};
+ghost use Rattle.opening.specs.Findings.{missing_at};
 ghost use Rattle.lines.specs.Text.{line_most, Shows};
 ghost use Rattle.outline.specs.Outline.{steps, started, sketch_in, Bounded, Ordinary};
-ghost use Rattle.listing.specs.Listing.{shown_length, lines_of, text_of, text_most, headers_from, refused_with, Examines};
+ghost use Rattle.listing.specs.Listing.{shown_length, lines_of, text_of, text_most, headers_from, Examines};
 
 use block::Block;
 use outline::Course;
+use promises::{Refusal, Stop};
 
 // The pages of the store as which the log is examined.
 const PAGES: usize = 4096;
@@ -22,12 +24,10 @@ pub const SLOTS: usize = 128;
 // The most bytes of a log's text: the first line, and one for each slot.
 pub const TEXT: usize = (SLOTS + 1) * lines::LINE;
 
-// What an examination tells: the number of the refusal, 0 for none, and its place; or the newest sequence, its keep-from and the last
-// committed ticket.
+// What an examination tells of a log that is not refused: the newest sequence, its keep-from and the last committed ticket. All are 0 where it
+// has no block.
 #[derive(Clone, Copy)]
 pub struct Examined {
-    pub refusal: u64,
-    pub place: u64,
     pub newest: u64,
     pub keep: u64,
     pub ticket: u64,
@@ -38,45 +38,33 @@ fn length_fits(log: usize) -> bool
     ensures { result ≡ shown_length log }
 {
     let slots = log / Block::SIZE;
-    (slots * Block::SIZE == log) & ((8 <= slots) & (slots <= SLOTS))
+    slots * Block::SIZE == log && (8..=SLOTS).contains(&slots)
 }
 
-// A refusal and its place, and nothing else.
-fn refused(refusal: u64, place: u64) -> Examined
-    ensures { result ≡ refused_with refusal place }
+// A block is missing at this place: refusal 7.
+fn missing(place: u64) -> Stop
+    ensures { result ≡ missing_at place }
 {
-    Examined {
-        refusal,
+    Stop {
+        refusal: Refusal::LogDamaged,
         place,
-        newest: 0,
-        keep: 0,
-        ticket: 0,
     }
-}
-
-// A log without a block: no refusal, and nothing else.
-fn fresh() -> Examined
-    ensures { result ≡ refused_with 0 0 }
-{
-    refused(0, 0)
 }
 
 // The walk over the blocks from first to last.
-fn walk_blocks(log: &[u8], first: u64, last: u64, ticket: u64) -> Course
+fn walk_blocks(log: &[u8], first: u64, last: u64, ticket: u64) -> Result<Course, Stop>
     requires { (block_size ≤ length log.now) × (1 ≤ first) × (first ≤ last) × (last < sequence_end) × (ticket < sequence_end) × ((s : ℕ) → first ≤ s → s ≤ last → Ordinary (header_of log.now s)) }
-    ensures { (sketch_in result ≡ steps 32 (headers_from log.now first (last + 1 - first)) (started first ticket)) × Bounded result × (1 ≤ result.place) × (result.place ≤ last + 1) }
+    ensures { (sketch_in result ≡ steps 32 (headers_from log.now first (last + 1 - first)) (started first ticket)) × IfOk result (λ course. Bounded course × (course.next ≡ last + 1)) }
 {
     let mut course = outline::start(first, ticket);
-    let mut s = first;
-    while s <= last {
-        course = outline::turn(course, recovery::header(log, s));
-        s += 1;
+    for s in first..=last {
+        course = outline::turn(course, recovery::header(log, s))?;
     }
-    course
+    Ok(course)
 }
 
 // Examines a log of right length, with room for each slot's sequence.
-fn examine_slots(log: &[u8], sequences: &mut [u64]) -> Examined
+fn examine_slots(log: &[u8], sequences: &mut [u64]) -> Result<Examined, Stop>
     requires { (length log.now ≡ length sequences.old * block_size) × (8 ≤ length sequences.old) × (length sequences.old ≤ 128) }
     ensures { Examines log.now result }
 {
@@ -85,40 +73,43 @@ fn examine_slots(log: &[u8], sequences: &mut [u64]) -> Examined
     let newest = scan.newest;
     if newest == 0 {
         if scan.unused {
-            return fresh();
+            return Ok(Examined {
+                newest: 0,
+                keep: 0,
+                ticket: 0,
+            });
         }
-        return refused(7, 0);
+        return Err(missing(0));
     }
     let last = recovery::header(log, newest);
     let keep = last.keep_from;
     let lost = recovery::missing(sequences, keep, newest);
     let end_damaged = recovery::damaged_at(log, PAGES, newest + 1);
     if lost <= newest {
-        return refused(7, lost);
+        return Err(missing(lost));
     }
     if end_damaged {
-        return refused(7, newest + 1);
+        return Err(missing(newest + 1));
     }
     let first = recovery::header(log, keep);
-    let course = outline::last_test(walk_blocks(log, keep, newest, first.ticket), slots);
-    if course.refusal != 0 {
-        return refused(course.refusal, course.place);
-    }
-    Examined {
-        refusal: 0,
-        place: 0,
+    let walked = walk_blocks(log, keep, newest, first.ticket)?;
+    let course = outline::last_test(walked, slots)?;
+    Ok(Examined {
         newest,
         keep,
         ticket: course.ticket,
-    }
+    })
 }
 
 // Examines a log.
-pub fn examine(log: &[u8]) -> Examined
+pub fn examine(log: &[u8]) -> Result<Examined, Stop>
     ensures { Examines log.now result }
 {
     if !length_fits(log.len()) {
-        return refused(1, 0);
+        return Err(Stop {
+            refusal: Refusal::WrongLength,
+            place: 0,
+        });
     }
     let slots = log.len() / Block::SIZE;
     let mut sequences = [0; SLOTS];
@@ -126,32 +117,35 @@ pub fn examine(log: &[u8]) -> Examined
 }
 
 // How many lines a log has that is examined.
-pub fn line_count(log: &[u8], examined: Examined) -> usize
+pub fn line_count(log: &[u8], examined: Result<Examined, Stop>) -> usize
     requires { Examines log.now examined }
     ensures { result ≡ length (lines_of log.now) }
 {
-    if examined.refusal != 0 {
-        return 1;
+    match examined {
+        Ok(shown) => {
+            if shown.newest == 0 {
+                return 1;
+            }
+            (shown.newest - shown.keep) as usize + 2
+        }
+        Err(_) => 1,
     }
-    if examined.newest == 0 {
-        return 1;
-    }
-    (examined.newest - examined.keep) as usize + 2
 }
 
 // Writes line number index of a log that is examined, and answers its length.
-pub fn line(log: &[u8], examined: Examined, index: usize, out: &mut [u8]) -> usize
+pub fn line(log: &[u8], examined: Result<Examined, Stop>, index: usize, out: &mut [u8]) -> usize
     requires { Examines log.now examined × (index < length (lines_of log.now)) × (line_most ≤ length out.old) }
     ensures { Shows (get_or (lines_of log.now) index []) out.old out.new result }
 {
-    if examined.refusal != 0 {
-        return lines::refused_line(out, examined.refusal, examined.place);
-    }
+    let shown = match examined {
+        Ok(shown) => shown,
+        Err(stop) => return lines::refused_line(out, stop.refusal.number(), stop.place),
+    };
     if index == 0 {
         let slots = (log.len() / Block::SIZE) as u64;
-        return lines::first_line(out, slots, examined.newest, examined.keep, examined.ticket);
+        return lines::first_line(out, slots, shown.newest, shown.keep, shown.ticket);
     }
-    let block = recovery::header(log, examined.keep + (index as u64 - 1));
+    let block = recovery::header(log, shown.keep + (index as u64 - 1));
     lines::block_line(out, block)
 }
 
@@ -165,10 +159,8 @@ pub fn text(log: &[u8], out: &mut [u8]) -> usize
     let examined = examine(log);
     let count = line_count(log, examined);
     let mut at = 0;
-    let mut index = 0;
-    while index < count {
+    for index in 0..count {
         at += line(log, examined, index, &mut out[at..at + lines::LINE]);
-        index += 1;
     }
     at
 }

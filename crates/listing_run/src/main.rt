@@ -5,6 +5,7 @@ ghost use Rattle.std.specs.Prelude.{◌≡◌, ◌+◌, ◌≤◌, length};
 ghost use Rattle.block.specs.Sizes.{block_size, new_bytes_most, group_most};
 
 use block::Block;
+use std::io;
 
 // Stores a block in its slot of a log.
 fn store(log: &mut [u8], block: Block, new: &[u8])
@@ -49,126 +50,132 @@ fn group(log: &mut [u8], sequence: u64, page: usize, updates: usize, ticket: u64
     requires { (block_size ≤ length log.old) × (updates ≤ group_most) × (page ≤ 4096) × (sequence ≤ 4096) × (ticket ≤ 4096) }
     ensures { length log.new ≡ length log.old }
 {
-    let mut i = 0;
-    while i < updates {
+    for i in 0..updates {
         update(log, sequence + i as u64, 1, i + 1, page + i, ticket);
-        i += 1;
     }
     commit(log, sequence + updates as u64, 1, updates, ticket + 1);
 }
 
 // Writes the text of a log to standard output.
-fn show(log: &[u8]) {
+fn show(rt: &impl Print, log: &[u8]) -> io::Result<()> {
     let mut out = [0; listing::TEXT];
     let end = listing::text(log, &mut out);
-    io::write_all(1, &out[..end]);
+    rt.write_all(&out[..end])
 }
 
 // A log without a block; then a half group, which is void; then it is committed; then its page is clean.
-fn small() {
+fn small(rt: &impl Print) -> io::Result<()> {
     let mut log = [0; 4096];
-    show(&log);
+    show(rt, &log)?;
     update(&mut log, 1, 1, 1, 0, 0);
-    show(&log);
+    show(rt, &log)?;
     commit(&mut log, 2, 1, 1, 1);
-    show(&log);
+    show(rt, &log)?;
     clean(&mut log, 3, 3, 0, 1);
-    show(&log);
+    show(rt, &log)?;
+    Ok(())
 }
 
 // A log of 8 slots that has wrapped: blocks 7 to 10 stand in slots 7, 0, 1 and 2, an old block in slot 3.
-fn wrapped() {
+fn wrapped(rt: &impl Print) -> io::Result<()> {
     let mut log = [0; 4096];
     clean(&mut log, 3, 3, 9, 1);
     update(&mut log, 7, 7, 1, 4095, 3);
     commit(&mut log, 8, 7, 1, 4);
     update(&mut log, 9, 7, 1, 2, 4);
     commit(&mut log, 10, 7, 1, 5);
-    show(&log);
+    show(rt, &log)?;
+    Ok(())
 }
 
 // Logs that are damaged: no valid slot but a damaged one; blocks 2 and 3 missing; and logs of a wrong length.
-fn damaged() {
+fn damaged(rt: &impl Print) -> io::Result<()> {
     let mut log = [0; 4096];
     log[100] = 1;
-    show(&log);
+    show(rt, &log)?;
     update(&mut log, 1, 1, 1, 0, 0);
     commit(&mut log, 4, 1, 1, 1);
-    show(&log);
+    show(rt, &log)?;
     let few = [0; 3584];
-    show(&few);
+    show(rt, &few)?;
     let torn = [0; 4095];
-    show(&torn);
+    show(rt, &torn)?;
+    Ok(())
 }
 
 // Damaged ends: the slot after the newest block; a slot further on, which is no end; the newest block; an older one as well.
-fn damaged_ends() {
+fn damaged_ends(rt: &impl Print) -> io::Result<()> {
     let mut log = [0; 4096];
     group(&mut log, 1, 0, 1, 0);
     log[1636] = 1;
-    show(&log);
+    show(rt, &log)?;
     let mut further = [0; 4096];
     group(&mut further, 1, 0, 1, 0);
     further[2148] = 1;
-    show(&further);
+    show(rt, &further)?;
     further[1124] = 1;
-    show(&further);
+    show(rt, &further)?;
     log[612] = 1;
-    show(&log);
+    show(rt, &log)?;
+    Ok(())
 }
 
 // The last block that there may be, in slot 7: a damaged slot after it, and an older block there.
-fn last_end() {
+fn last_end(rt: &impl Print) -> io::Result<()> {
     let mut log = [0; 4096];
     clean(&mut log, 281474976710655, 281474976710655, 0, 1);
     log[100] = 1;
-    show(&log);
+    show(rt, &log)?;
     let mut older = [0; 4096];
     clean(&mut older, 281474976710655, 281474976710655, 0, 1);
     clean(&mut older, 281474976710648, 281474976710648, 0, 1);
-    show(&older);
+    show(rt, &older)?;
+    Ok(())
 }
 
 // Logs out of order: an update whose index is neither 1 nor the next, a commit that does not close its group, a wrong ticket.
-fn disordered() {
+fn disordered(rt: &impl Print) -> io::Result<()> {
     let mut log = [0; 4096];
     update(&mut log, 1, 1, 1, 0, 0);
     update(&mut log, 2, 1, 3, 1, 0);
-    show(&log);
+    show(rt, &log)?;
     commit(&mut log, 2, 1, 2, 1);
-    show(&log);
+    show(rt, &log)?;
     commit(&mut log, 2, 1, 1, 1);
     clean(&mut log, 3, 1, 0, 2);
-    show(&log);
+    show(rt, &log)?;
+    Ok(())
 }
 
 // What cleaning needs is not within 8 slots: four dirty pages in eight blocks.
-fn crowded() {
+fn crowded(rt: &impl Print) -> io::Result<()> {
     let mut log = [0; 4096];
     group(&mut log, 1, 0, 1, 0);
     group(&mut log, 3, 1, 1, 1);
     group(&mut log, 5, 2, 1, 2);
     group(&mut log, 7, 3, 1, 3);
-    show(&log);
+    show(rt, &log)?;
+    Ok(())
 }
 
 // The third group leaves 33 pages dirty; before it there are 32, which 128 slots allow.
-fn many() {
+fn many(rt: &impl Print) -> io::Result<()> {
     let mut log = [0; 65536];
     group(&mut log, 1, 0, 16, 0);
     group(&mut log, 18, 16, 16, 1);
-    show(&log);
+    show(rt, &log)?;
     group(&mut log, 35, 32, 1, 2);
-    show(&log);
+    show(rt, &log)?;
+    Ok(())
 }
 
-fn main() {
-    small();
-    wrapped();
-    damaged();
-    damaged_ends();
-    last_end();
-    disordered();
-    crowded();
-    many();
+fn main(rt: HostRuntime) -> io::Result<()> {
+    small(&rt)?;
+    wrapped(&rt)?;
+    damaged(&rt)?;
+    damaged_ends(&rt)?;
+    last_end(&rt)?;
+    disordered(&rt)?;
+    crowded(&rt)?;
+    many(&rt)
 }

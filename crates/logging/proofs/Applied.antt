@@ -1,14 +1,13 @@
 -- The oldest group applied to the frames, update by update, and what its commit leaves.
 -- Assumes nothing.
 use mathlib.Core.Path.{◌≡◌, refl, sym, ap, ◌∙◌, subst}
-use mathlib.Core.Bool.{Bool, true, false, not, ◌&&◌}
+use mathlib.Core.Bool.{Bool, true, false, not}
 use mathlib.Core.List.{List, ◌∷◌, map}
 use Prim.Native.Nat.{ℕ, ◌+◌, ◌-◌, ◌*◌, ◌≤◌, ◌<◌}
 use native.Mathlib.Omega.{arith}
-use lib.Dec.{ltb}
 use lib.ListN.{length, take, drop, get_or, length-take, length-map, get_or-map}
-use borrow.Author.Tests.{ltb-true, ltb-false}
-use Rattle.area.proofs.Laws.{and_both, never_both}
+use lib.Seq.{get_or-take, length-take-le}
+use Rattle.area.proofs.Laws.{never_both}
 use Rattle.area.proofs.Parts.{from-to}
 use Rattle.promises.specs.declared.State.{State}
 use Rattle.promises.specs.declared.Staged.{Staged}
@@ -24,7 +23,7 @@ use Rattle.table.specs.Table.{Applies, AppliesAll}
 use Rattle.table.specs.Seats.{entry_in, cleared, dirty_in, seated}
 use Rattle.table.proofs.Scans.{rest, rest-cons, rest_end}
 use Rattle.table.proofs.Applying.{applies-none, applies-more}
-use Rattle.logging.specs.Logging.{no_staged, size_of, group_of, Placed, oldest_group, commit_at, Commits}
+use Rattle.logging.specs.Logging.{no_staged, size_of, group_of, oldest_group, commit_at, Commits}
 use Rattle.logging.proofs.Packing.{applied-fills, applied-holds}
 
 -- the update that the code hands over is the staged one
@@ -35,15 +34,6 @@ pub staged-applied : (t r : Table) (home frames frames' staging : List ℕ) (x :
 staged-applied t r home frames frames' staging x group at long page offset a l p o =
     subst (λ (u : Update). Applies t home frames u group r frames')
     (ap (λ (bytes : List ℕ). record { page = page; offset = offset; bytes = bytes }) (from-to staging at long) ∙ rw (a, l, p, o))
-
--- as many seats as before: an update of the group is placed as before
-pub still_placed : (pages n m : ℕ) (staged : List Staged) (i size : ℕ) → m ≡ n → ((j : ℕ) → j < size → Placed pages n (get_or staged j no_staged)) → i < size
-    → Placed pages m (get_or staged i no_staged)
-still_placed pages n m staged i size e f h = subst (λ (k : ℕ). Placed pages k (get_or staged i no_staged)) (sym e) (f i h)
-
--- the loop's test
-pub goes_on_lem : (fits : Bool) (left : ℕ) → (fits && ltb 0 left) ≡ true → (fits ≡ true) × (0 < left)
-goes_on_lem fits left e = let b = and_both fits (ltb 0 left) e in (b.0, ltb-true 0 left b.1)
 
 module _ (staged : List Staged) (size : ℕ) (home staging : List ℕ) (group : ℕ) where
   -- the updates of the group from index i on
@@ -58,41 +48,42 @@ module _ (staged : List Staged) (size : ℕ) (home staging : List ℕ) (group : 
   pub left-start : (table : Table) (frames : List ℕ) (i : ℕ) → i ≡ 0 → LeftTo table frames table frames i
   left-start table frames i z r frames' a = subst (λ (n : ℕ). AppliesAll table home frames (group_from n) group r frames') z a
 
-  module _ (long : size ≤ length staged) (table : Table) (frames : List ℕ) (fits : Bool) (seats frames₁ : List ℕ) (left : ℕ)
-      (rests : LeftTo table frames (seated (not fits) seats) frames₁ (size - left)) where
-    -- one less: the next is at index j
-    pub left_less : (t : Table) (frames₂ : List ℕ) (j : ℕ) → (fits && ltb 0 left) ≡ true → left ≤ size → j ≡ size - left + 1
-        → Applies (seated false seats) home frames₁ (waiting staging (get_or staged (size - left) no_staged)) group t frames₂ → LeftTo table frames t frames₂ j
-    left_less t frames₂ j g l n a r frames' b =
-        let on : (fits ≡ true) × (0 < left) = goes_on_lem fits left g in
-        let i : ℕ = size - left in
-        let u : Update = waiting staging (get_or staged i no_staged) in
-        rests r frames'
-        (subst (λ (us : List Update). AppliesAll (seated (not fits) seats) home frames₁ us group r frames')
-        (sym (rest-cons (map (waiting staging) staged) size i (waiting staging no_staged) (omega arith) (omega (arith, length-map staged (waiting staging)))
-        ∙ ap (λ (x : Update). x ∷ group_from (i + 1)) (get_or-map (waiting staging) staged i no_staged)
-        ∙ ap (λ (k : ℕ). u ∷ group_from k) (sym n)))
-        (applies-more (seated (not fits) seats) t r home frames₁ frames₂ frames' u (group_from j) group
-        (subst (λ (b : Bool). Applies (seated (not b) seats) home frames₁ u group t frames₂) (sym on.0) a) b))
+  module _ (long : size ≤ length staged) (table : Table) (frames : List ℕ) (t : Table) (frames₁ : List ℕ) (i : ℕ) (rests : LeftTo table frames t frames₁ i) where
+    whole : length (take size staged) ≡ size
+    whole = length-take-le size staged long
 
-    -- all are applied, or a page found no frame: nothing happens any more
-    pub left-ends : (fits && ltb 0 left) ≡ false → AppliesAll table home frames (group_of staged size staging) group (seated (not fits) seats) frames₁
-    left-ends g = rests (seated (not fits) seats) frames₁ (go fits g)
-      where
-        go : (b : Bool) → (b && ltb 0 left) ≡ false → AppliesAll (seated (not b) seats) home frames₁ (group_from (size - left)) group (seated (not b) seats) frames₁
-        go true e =
-            let z : left ≤ 0 = ltb-false 0 left e in
-            subst (λ (us : List Update). AppliesAll (seated false seats) home frames₁ us group (seated false seats) frames₁)
-            (sym (rest_end (map (waiting staging) staged) size (size - left) (omega arith) (omega (arith, length-map staged (waiting staging)))))
-            (applies-none (seated false seats) home frames₁ group)
-        go false e = record {
+    -- the next is applied
+    pub left-less : (t' : Table) (frames₂ : List ℕ) → i < length (take size staged)
+        → Applies t home frames₁ (waiting staging (get_or (take size staged) i no_staged)) group t' frames₂ → LeftTo table frames t' frames₂ (i + 1)
+    left-less t' frames₂ h a r frames' b =
+        let u : Update = waiting staging (get_or (take size staged) i no_staged) in
+        rests r frames'
+        (subst (λ (us : List Update). AppliesAll t home frames₁ us group r frames')
+        (sym (rest-cons (map (waiting staging) staged) size i (waiting staging no_staged) (omega (arith, whole)) (omega (arith, length-map staged (waiting staging)))
+        ∙ ap (λ (x : Update). x ∷ group_from (i + 1))
+        (get_or-map (waiting staging) staged i no_staged ∙ ap (waiting staging) (sym (get_or-take size staged i no_staged (omega (arith, whole)))))))
+        (applies-more t t' r home frames₁ frames₂ frames' u (group_from (i + 1)) group a b))
+
+    -- all are applied
+    pub left-ends : length (take size staged) ≤ i → AppliesAll table home frames (group_of staged size staging) group t frames₁
+    left-ends h =
+        rests t frames₁
+        (subst (λ (us : List Update). AppliesAll t home frames₁ us group t frames₁)
+        (sym (rest_end (map (waiting staging) staged) size i (omega (arith, whole)) (omega (arith, length-map staged (waiting staging)))))
+        (applies-none t home frames₁ group))
+
+    -- a page found no frame: nothing happens any more
+    pub left-full : t.full ≡ true → AppliesAll table home frames (group_of staged size staging) group t frames₁
+    left-full full =
+        rests t frames₁
+        (record {
           count_is = refl;
           frames_long = refl;
           kept = λ f n. refl;
           stays = λ q. (refl, refl);
-          fits = λ es q h l. absurd (never_both true refl q);
-          fills = λ es q h l. refl;
-        }
+          fits = λ es q h l. absurd (never_both _ full q);
+          fills = λ es q h l. full;
+        })
 
 -- what the store, the seats and the group's application leave is what the commit leaves
 pub commits-by : (s : State) (log home frames staging log' frames' packed seats : List ℕ) (dirty : List Dirty) (fits : Bool) (keep size : ℕ) → size ≡ size_of s

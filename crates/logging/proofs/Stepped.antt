@@ -11,6 +11,7 @@ use Rattle.promises.specs.declared.State.{State}
 use Rattle.promises.specs.declared.Staged.{Staged}
 use Rattle.promises.specs.declared.Dirty.{Dirty}
 use Rattle.promises.specs.declared.Cleaning.{Cleaning}
+use Rattle.std.specs.Prelude.{Ok}
 use Rattle.promises.specs.declared.Logged.TheVariants.{Stored, Settled}
 use Rattle.promises.specs.Areas.{page_at}
 use Rattle.promises.specs.Updates.{Update}
@@ -79,10 +80,10 @@ module _ (s : State) (log home frames staging : List ℕ) (accepts : log_refusal
       ∙ ap (λ (k : ℕ). record { kind = update (s.stored + 1) (get_or group s.stored no_update); keep_from = k; ticket = s.ticket }) keep-of
 
   pub update-steps : (log' : List ℕ) → s.stored < size_of s → log' ≡ stored s.slots log s.next (update_at s staging keep)
-      → LogSteps s log home frames staging (record { state = update_stored_state s; answer = Stored }) log' frames
+      → LogSteps s log home frames staging (record { state = update_stored_state s; answer = Ok Stored }) log' frames
   update-steps log' h l =
-      log-updates s log home frames staging (record { state = update_stored_state s; answer = Stored }) log' frames accepts group others queue-is (omega (arith, group-long))
-      (subst (λ (x : List ℕ). UpdateStep s group log frames staging (record { state = update_stored_state s; answer = Stored }) x frames)
+      log-updates s log home frames staging (record { state = update_stored_state s; answer = Ok Stored }) log' frames accepts group others queue-is (omega (arith, group-long))
+      (subst (λ (x : List ℕ). UpdateStep s group log frames staging (record { state = update_stored_state s; answer = Ok Stored }) x frames)
       (sym (l ∙ ap (stored s.slots log s.next) (update-is h)))
       (update-met s group others log frames staging tests-passed.is_sound queue-is (omega (arith, group-long))))
 
@@ -104,13 +105,13 @@ module _ (s : State) (log home frames staging : List ℕ) (accepts : log_refusal
       (keep-of ∙ sym (keep-applied (group_start s) (page_at home) group (dirty_of s frames)))
 
   commit-met : (dirty : List Dirty) (log' frames' : List ℕ) → length s.dirty ≡ 32 → size_of s ≤ s.stored → Commits s log home frames staging keep dirty log' frames'
-      → LogSteps s log home frames staging (record { state = commit_done s dirty (size_of s); answer = Settled (s.ticket + 1) }) log' frames'
+      → LogSteps s log home frames staging (record { state = commit_done s dirty (size_of s); answer = Ok (Settled (s.ticket + 1)) }) log' frames'
   commit-met dirty log' frames' full h m =
       let r : State = commit_done s dirty (size_of s) in
       let room : length (dirty_of s frames) + size_of s ≤ s.frames =
       omega (arith, facts.frame_sum, length-dirty frames 0 s.dirty, ap total (size-and-rest s facts some)) in
       let held = m.holds (sound-holds s frames tests-passed.is_sound) room in
-      log-commits s log home frames staging (record { state = r; answer = Settled (s.ticket + 1) }) log' frames' accepts group others queue-is (omega (arith, group-long))
+      log-commits s log home frames staging (record { state = r; answer = Ok (Settled (s.ticket + 1)) }) log' frames' accepts group others queue-is (omega (arith, group-long))
       (record {
         answer_is = refl;
         log_is = m.log_is ∙ ap (stored s.slots log s.next) commit-is;
@@ -126,9 +127,9 @@ module _ (s : State) (log home frames staging : List ℕ) (accepts : log_refusal
   pub commit-steps : (dirty : List Dirty) (log' frames' : List ℕ) (size : ℕ) (staged : List Staged) (groups : List ℕ) (cleaning : Cleaning) (r : State) → length s.dirty ≡ 32 → size ≡ size_of s
       → staged ≡ shifted s.staged size → groups ≡ shifted s.groups 1 → cleaning ≡ cleaning_left (take size s.staged) s.cleaning
       → size_of s ≤ s.stored → r ≡ with_queue dirty staged groups cleaning → Commits s log home frames staging keep dirty log' frames'
-      → LogSteps s log home frames staging (record { state = r; answer = Settled (s.ticket + 1) }) log' frames'
+      → LogSteps s log home frames staging (record { state = r; answer = Ok (Settled (s.ticket + 1)) }) log' frames'
   commit-steps dirty log' frames' size staged groups cleaning r full n a b c h t m =
-      subst (λ (x : State). LogSteps s log home frames staging (record { state = x; answer = Settled (s.ticket + 1) }) log' frames')
+      subst (λ (x : State). LogSteps s log home frames staging (record { state = x; answer = Ok (Settled (s.ticket + 1)) }) log' frames')
       (sym (t ∙ ap (λ (x : List Staged). with_queue dirty x groups cleaning) a ∙ ap (λ (x : List ℕ). with_queue dirty (shifted s.staged size) x cleaning) b
       ∙ ap (with_queue dirty (shifted s.staged size) (shifted s.groups 1)) c ∙ ap (commit_done s dirty) n))
       (commit-met dirty log' frames' full h m)

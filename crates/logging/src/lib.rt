@@ -2,11 +2,13 @@
 // call itself stands in the store.
 #![tactic(auto)]
 
-ghost use Rattle.std.specs.Prelude.{◌≡◌, false, not, map, ℕ, ◌≤◌, ◌<◌, length, take, get_or};
+ghost use Rattle.std.specs.Prelude.{◌≡◌, false, not, map, ℕ, ◌≤◌, ◌<◌, length, take, get_or, IfOk};
 ghost use Rattle.block.specs.Sizes.{sequence_end};
 ghost use Rattle.promises.specs.Blocks.{stored};
 ghost use Rattle.promises.specs.Contents.{waiting};
-ghost use Rattle.promises.specs.Sound.{sound};
+ghost use Rattle.promises.specs.Answers.{refusal_in};
+ghost use Rattle.soundness.specs.Summed.{Summed};
+ghost use Rattle.soundness.specs.Verdicts.{Judges};
 ghost use Rattle.promises.specs.LogStep.{log_refusal};
 ghost use Rattle.promises.specs.States.{free};
 ghost use Rattle.table.specs.Seats.{cleared, entry_in, seated};
@@ -15,54 +17,39 @@ ghost use Rattle.logging.specs.Logging.{no_staged, size_of, group_of, Placed, Le
 ghost use Rattle.promises.specs.Areas.{home_length, frames_length, pages_in};
 
 use block::Block;
-use promises::{Dirty, Staged, State};
+use promises::{Dirty, Refusal, Staged, State};
+use soundness::sums::Sums;
 
-// A byte as a count.
-fn wide(byte: u8) -> usize
-    ensures { result ≡ byte }
-{
-    byte as usize
-}
-
-// A staged place as a count.
-fn wide_place(place: u16) -> usize
-    ensures { result ≡ place }
-{
-    place as usize
-}
-
-// What Log step is refused with, by number, 0 where it is accepted: from whether the state is sound, the state and the lengths of
-// the lent areas.
+// What Log step is refused with: from the verdict on the state, the state and the lengths of the lent areas. Where it is accepted, the sums
+// over the state.
 pub fn log_refusal(
-    holds: bool,
+    verdict: Option<Sums>,
     state: State,
     log: usize,
     home: usize,
     frames: usize,
     staging: usize,
-) -> u64
-    requires { holds ≡ sound state }
-    ensures { (result ≡ log_refusal state log home frames staging) × (result ≤ 11) }
+) -> Result<Sums, Refusal>
+    requires { Judges state verdict }
+    ensures refusal { refusal_in result ≡ log_refusal state log home frames staging }
+    ensures sums { IfOk result (Summed state) }
 {
-    if !holds {
-        return 2;
-    }
+    let sums = verdict.ok_or(Refusal::NotSound)?;
     let fit = stepping::areas_fit(state, log, home, frames);
     if !(fit & (staging == state.frames * Block::NEW_BYTES)) {
-        return 1;
+        return Err(Refusal::WrongLength);
     }
     if state.queued == 0 {
-        return 10;
+        return Err(Refusal::NothingToDo);
     }
-    0
+    Ok(sums)
 }
 
 // How many updates the oldest queued group has.
 pub fn group_size(state: State) -> usize
     ensures { result ≡ size_of state }
 {
-    let groups = state.groups;
-    wide(groups[0])
+    usize::from(state.groups[0])
 }
 
 // Stores the next update of the oldest group.
@@ -71,16 +58,17 @@ pub fn store_update(state: State, log: &mut [u8], staging: &[u8], keep_from: u64
     ensures { log.new ≡ stored state.slots log.old state.next (update_at state staging.now keep_from) }
 {
     let index = state.stored;
+    // The field is copied out first, for speed: used in the state itself, more is copied.
     let all = state.staged;
     let staged = all[index];
-    let at = wide(staged.area) * Block::NEW_BYTES;
-    let length = wide_place(staged.length);
+    let at = usize::from(staged.area) * Block::NEW_BYTES;
+    let length = usize::from(staged.length);
     let block = Block::update(
         state.next,
         keep_from,
         index + 1,
-        wide_place(staged.page),
-        wide_place(staged.offset),
+        usize::from(staged.page),
+        usize::from(staged.offset),
         length,
         state.ticket,
     );
@@ -92,11 +80,10 @@ pub fn pack(dirty: [Dirty; 32], seats: &mut [u64])
     requires { (length seats.old ≤ 32) × ((i : ℕ) → (get_or dirty i free).first < sequence_end) }
     ensures { (length seats.new ≡ length seats.old) × (map entry_in seats.new ≡ map cleared (take (length seats.old) dirty)) }
 {
-    let mut i = 0;
-    while i < seats.len() {
+    // By index: a proof knows nothing of seats after a zip with their iter_mut.
+    for (i, seat) in seats.iter_mut().enumerate() {
         let entry = dirty[i];
-        seats[i] = entry.first * 65536 + entry.page as u64;
-        i += 1;
+        *seat = entry.first * 65536 + u64::from(entry.page);
     }
 }
 
@@ -113,14 +100,14 @@ pub fn apply_staged(
     requires { Lent (length seats.old) (length home.now) (length frames.old) (length staging.now) group × Placed (pages_in (length home.now)) (length seats.old) staged }
     ensures { Applies (seated false seats.old) home.now frames.old (waiting staging.now staged) group (seated (not result) seats.new) frames.new }
 {
-    let at = wide(staged.area) * Block::NEW_BYTES;
-    let length = wide_place(staged.length);
+    let at = usize::from(staged.area) * Block::NEW_BYTES;
+    let length = usize::from(staged.length);
     table::seats::apply(
         seats,
         home,
         frames,
-        wide_place(staged.page),
-        wide_place(staged.offset),
+        usize::from(staged.page),
+        usize::from(staged.offset),
         &staging[at..at + length],
         group,
     )
@@ -139,15 +126,12 @@ pub fn apply_group(
     requires { Lent (length seats.old) (length home.now) (length frames.old) (length staging.now) group × (size ≤ 32) × ((i : ℕ) → i < size → Placed (pages_in (length home.now)) (length seats.old) (get_or staged i no_staged)) }
     ensures { AppliesAll (seated false seats.old) home.now frames.old (group_of staged size staging.now) group (seated (not result) seats.new) frames.new }
 {
-    let mut fits = true;
-    let mut left = size;
-    while fits & (0 < left) {
-        let i = size - left;
-        let update = staged[i];
-        fits = apply_staged(seats, update, group, home, frames, staging);
-        left -= 1;
+    for update in &staged[..size] {
+        if !apply_staged(seats, *update, group, home, frames, staging) {
+            return false;
+        }
     }
-    fits
+    true
 }
 
 // Stores the commit of the oldest group, which then takes effect. The pages that are dirty then.
@@ -165,13 +149,14 @@ pub fn store_commit(
     let size = group_size(state);
     let block = Block::commit(state.next, keep_from, size, state.ticket + 1);
     stepping::store(log, state.slots, block, &staging[..0]);
-    let count = state.frames;
+    // The fields are copied out first, for speed: used in the state itself, more is copied.
     let before = state.dirty;
     let staged = state.staged;
-    let mut seats = [0; 32];
-    pack(before, &mut seats[..count]);
+    let mut room = [0; 32];
+    let seats = &mut room[..state.frames];
+    pack(before, seats);
     apply_group(
-        &mut seats[..count],
+        seats,
         staged,
         size,
         state.next - state.stored as u64,
@@ -179,5 +164,5 @@ pub fn store_commit(
         frames,
         staging,
     );
-    table::seats::entries(&seats[..count])
+    table::seats::entries(seats)
 }

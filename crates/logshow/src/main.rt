@@ -16,6 +16,7 @@ fn read_full<R: Read>(file: &mut R, bytes: &mut [u8]) -> usize
     ensures { IsPrefixLen result bytes.new }
 {
     let mut done = 0;
+    // A while: only after a read is it known how far it came.
     while done < bytes.len() {
         let count = file.read(&mut bytes[done..]).unwrap_or(0);
         if count == 0 {
@@ -42,10 +43,10 @@ fn read_log(files: &impl Files, log: &mut [u8]) -> usize
     size
 }
 
-fn main(rt: HostRuntime) {
+fn main(rt: HostRuntime) -> std::io::Result<()> {
     let mut log = [0; MOST];
     let mut out = [0; listing::TEXT];
     let size = read_log(&rt, &mut log);
     let end = listing::text(&log[..size], &mut out);
-    io::write_all(1, &out[..end]);
+    rt.write_all(&out[..end])
 }

@@ -3,15 +3,17 @@
 use mathlib.Core.Path.{◌≡◌, refl, sym, ap, ◌∙◌, subst}
 use mathlib.Core.Bool.{Bool, true, false, cond}
 use mathlib.Core.List.{List, [], ◌∷◌, ◌++◌}
-use Prim.Native.Nat.{ℕ, ◌+◌, ◌-◌, ◌*◌, ◌^◌, ◌≤◌, ◌<◌}
+use Prim.Native.Nat.{ℕ, ◌+◌, ◌-◌, ◌*◌, ◌≤◌, ◌<◌}
 use native.Mathlib.Omega.{arith}
 use lib.ListN.{length, drop, get_or, replicate}
 use Rattle.area.proofs.Laws.{get_d-all}
 use borrow.Author.Tests.{leb-true, ne_eqb}
+use Rattle.std.specs.Prelude.{Result, Ok, Err, MatchResult}
 use Rattle.block.proofs.Tests.{tests}
 use Rattle.promises.specs.declared.State.{State}
 use Rattle.promises.specs.declared.Dirty.{Dirty}
-use Rattle.promises.specs.declared.OpenOutcome.{OpenOutcome}
+use Rattle.promises.specs.declared.Outcome.{Outcome}
+use Rattle.promises.specs.declared.Stop.{Stop}
 use Rattle.promises.specs.Areas.{slots_in, pages_in, frames_in}
 use Rattle.promises.specs.Answers.{refuses, settles, open_answered, place_in}
 use Rattle.promises.specs.Contents.{contents_of, dirty_of, grouped}
@@ -26,8 +28,12 @@ use Rattle.promises.proofs.OpenFindings.{finding-refusals}
 use Rattle.table.specs.Table.{Holds, Each}
 use Rattle.table.proofs.Entries.{within-most}
 use Rattle.table.proofs.Holding.{held_below, Below}
+use Rattle.table.specs.Seats.{dirty_in}
+use Rattle.table.proofs.Seating.{length-dirty, free-zero}
 use Rattle.recovery.specs.Walking.{Early}
-use Rattle.opening.specs.Findings.{FoundWalk, Accepts, Finds}
+use Rattle.promises.proofs.Replies.{numbered}
+use Rattle.opening.specs.declared.Found.{Found}
+use Rattle.opening.specs.Findings.{FoundWalk, found_of, outcome_refused, outcome_found, Accepts, Finds}
 
 -- ---- the lengths
 
@@ -59,11 +65,8 @@ lengths-told log home frames staging h =
 
 module _ (log home : List ℕ) (count : ℕ) (found : FoundWalk) (frames : List ℕ) (slots pages : ℕ)
     (x : Finds log home count (finding slots pages count log home) found frames) where
-  pub refusal-range : (found.walk.stage.refusal ≡ 0 → ⊥) → (7 ≤ found.walk.stage.refusal) × (found.walk.stage.refusal ≤ 9)
-  refusal-range n = finding-refusals slots pages count log home found.walk.stage.refusal found.walk.stage.place (x.refused n)
-
-  pub next_fits : found.walk.stage.refusal ≡ 0 → found.newest + 1 ≤ 2 ^ 48
-  next_fits z = omega (arith, (x.accepted z).newest_below)
+  pub refusal-range : (found.walk.refusal ≡ 0 → ⊥) → (7 ≤ found.walk.refusal) × (found.walk.refusal ≤ 9)
+  refusal-range n = finding-refusals slots pages count log home found.walk.refusal found.walk.place (x.refused n)
 
 -- ---- the frames' entries: none was in use before
 
@@ -121,7 +124,7 @@ module _ (log home : List ℕ) (found : Finding) (result : FoundWalk) (frames : 
 
 -- ---- from the finding to the promise
 
-module _ (log home frames staging : List ℕ) (r : OpenOutcome) (frames' : List ℕ) where
+module _ (log home frames staging : List ℕ) (r : Outcome ℕ Stop) (frames' : List ℕ) where
   -- refused
   opens_stopped : (refusal place : ℕ) → open_finding log home (length frames) (length staging) ≡ stops refusal place → OpenStops refusal place frames r frames'
       → Opens log home frames staging r frames'
@@ -171,20 +174,20 @@ module _ (log home frames staging : List ℕ) (r : OpenOutcome) (frames' : List 
     told = lengths-told (length log) (length home) (length frames) (length staging) fit
 
     -- after 7, 8 and 9 the frames are zero
-    pub opens-refused : (found.walk.stage.refusal ≡ 0 → ⊥) → open_answered r.answer ≡ refuses found.walk.stage.refusal → place_in r.answer ≡ found.walk.stage.place
+    pub opens-refused : (found.walk.refusal ≡ 0 → ⊥) → open_answered r.answer ≡ refuses found.walk.refusal → place_in r.answer ≡ found.walk.place
         → r.state ≡ all_zero_state → length mid ≡ length frames → frames' ≡ replicate (length mid) 0 → Opens log home frames staging r frames'
     opens-refused n a p s l f =
-        opens_stopped found.walk.stage.refusal found.walk.stage.place (by_lengths true fit ∙ x.refused n)
+        opens_stopped found.walk.refusal found.walk.place (by_lengths true fit ∙ x.refused n)
         record {
           answer_is = a;
           place_is = p;
           state_is = s;
           frames_are = f ∙ ap (λ (m : ℕ). replicate m 0) l
-              ∙ sym (ap (λ (b : Bool). cond b frames (replicate (length frames) 0)) (ne_eqb found.walk.stage.refusal 1 (λ q. absurd (omega (arith, (refusal-range log home (frames_in (length frames)) found mid (slots_in (length log)) (pages_in (length home)) x n).0)))));
+              ∙ sym (ap (λ (b : Bool). cond b frames (replicate (length frames) 0)) (ne_eqb found.walk.refusal 1 (λ q. absurd (omega (arith, (refusal-range log home (frames_in (length frames)) found mid (slots_in (length log)) (pages_in (length home)) x n).0)))));
         }
 
     -- an accepted Open's state is sound, whatever the log holds
-    module _ (z : found.walk.stage.refusal ≡ 0) where
+    module _ (z : found.walk.refusal ≡ 0) where
       abbrev acc : Accepts log home (finding (slots_in (length log)) (pages_in (length home)) (frames_in (length frames)) log home) found mid
       acc = x.accepted z
 
@@ -217,3 +220,22 @@ module _ (log home frames staging : List ℕ) (r : OpenOutcome) (frames' : List 
             dirty_are = λ page. ap (λ (y : State). look_up page (dirty_of y frames')) s
                 ∙ ap (λ (y : List ℕ). look_up page (dirty_of state y)) f ∙ holds.looks page;
           }
+
+-- what is answered to what was found
+pub opens-answered : (log home frames staging : List ℕ) (r : Outcome ℕ Stop) (frames' : List ℕ) → lengths_fit (length log) (length home) (length frames) (length staging) ≡ true
+    → (found : Result Found Stop) (seats lent mid : List ℕ) → length seats ≡ frames_in (length frames) → lent ≡ seats → length mid ≡ length frames
+    → Finds log home (frames_in (length frames)) (finding (slots_in (length log)) (pages_in (length home)) (frames_in (length frames)) log home) (found_of found seats) mid
+    → MatchResult found
+    (λ f. (r ≡ outcome_found (pages_in (length home)) (slots_in (length log)) (frames_in (length mid)) f (dirty_in lent)) × (frames' ≡ mid))
+    (λ stop. (r ≡ outcome_refused stop) × (frames' ≡ replicate (length mid) 0))
+    → Opens log home frames staging r frames'
+opens-answered log home frames staging r frames' fit (Ok f) seats lent mid long e l x m =
+    let t : Lengths (length log) (length home) (length frames) (length staging) = lengths-told (length log) (length home) (length frames) (length staging) fit in
+    opens-accepted log home frames staging r frames' fit (found_of (Ok f) seats) mid x refl (ap (λ (o : Outcome ℕ Stop). open_answered o.answer) m.0)
+    (ap (λ (o : Outcome ℕ Stop). o.state) m.0
+    ∙ ap (λ (n : ℕ). opened_state (pages_in (length home)) (slots_in (length log)) (frames_in n) (f.newest + 1) f.stage.ticket (dirty_in lent)) l
+    ∙ ap (λ (es : List ℕ). opened_state (pages_in (length home)) (slots_in (length log)) (frames_in (length frames)) (f.newest + 1) f.stage.ticket (dirty_in es)) e)
+    (length-dirty seats (omega (arith, long, t.frames_most))) (free-zero seats) l m.1
+opens-answered log home frames staging r frames' fit (Err stop) seats lent mid long e l x m =
+    opens-refused log home frames staging r frames' fit (found_of (Err stop) seats) mid x (numbered _)
+    (ap (λ (o : Outcome ℕ Stop). open_answered o.answer) m.0) (ap (λ (o : Outcome ℕ Stop). place_in o.answer) m.0) (ap (λ (o : Outcome ℕ Stop). o.state) m.0) l m.1

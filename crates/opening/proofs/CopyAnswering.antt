@@ -3,14 +3,15 @@
 use mathlib.Core.Path.{◌≡◌, refl, sym, ap, ◌∙◌, subst}
 use mathlib.Core.Bool.{Bool, true, false, cond, ◌&&◌}
 use mathlib.Core.List.{List, ◌++◌}
-use Prim.Native.Nat.{ℕ, ◌+◌, ◌-◌, ◌^◌, ◌≤◌}
+use Prim.Native.Nat.{ℕ, ◌+◌, ◌-◌, ◌≤◌}
 use native.Mathlib.Omega.{arith}
 use lib.ListN.{length, get_or, replicate}
 use borrow.Author.Tests.{leb-true, eq-eqb, ne_eqb}
 use Rattle.area.proofs.Laws.{by_cases}
 use Rattle.promises.specs.declared.State.{State}
 use Rattle.promises.specs.declared.Dirty.{Dirty}
-use Rattle.promises.specs.declared.OpenOutcome.{OpenOutcome}
+use Rattle.promises.specs.declared.Outcome.{Outcome}
+use Rattle.promises.specs.declared.Stop.{Stop}
 use Rattle.promises.specs.Areas.{whole, log_fits, home_fits, frames_in_range, slots_in, pages_in, frames_in, staging_length}
 use Rattle.promises.specs.Answers.{refuses, settles, open_answered, place_in}
 use Rattle.promises.specs.Contents.{dirty_of}
@@ -20,14 +21,19 @@ use Rattle.promises.specs.Sums.{first_groups, half_starts, smallest}
 use Rattle.promises.specs.Sound.{copy_sound}
 use Rattle.promises.specs.Walk.{Walk as PaperWalk, Finding, stops, stands, finding}
 use Rattle.promises.specs.Feed.{span_fits}
-use Rattle.promises.specs.Open.{lengths_fit, OpenStops}
+use Rattle.std.specs.Prelude.{Result, Ok, Err, MatchResult}
+use Rattle.promises.specs.Open.{lengths_fit, opened_state, OpenStops}
 use Rattle.promises.specs.CopyOpen.{copy_lengths_fit, copy_finding, kept_ending, CopyStands, OpensCopy}
 use Rattle.promises.proofs.Soundness.{SoundAs, of-sound-as}
 use Rattle.promises.proofs.Changes.{held-is}
 use Rattle.promises.proofs.CopyPromised.{copy-accepts}
 use Rattle.promises.proofs.OpenFindings.{finding-refusals}
 use Rattle.table.specs.Table.{Holds}
-use Rattle.opening.specs.Findings.{FoundWalk, Accepts, Keeps, kept_from}
+use Rattle.table.specs.Seats.{dirty_in}
+use Rattle.table.proofs.Seating.{length-dirty, free-zero}
+use Rattle.promises.proofs.Replies.{numbered}
+use Rattle.opening.specs.declared.Found.{Found}
+use Rattle.opening.specs.Findings.{FoundWalk, found_of, outcome_refused, outcome_found, Accepts, Keeps, kept_from}
 use Rattle.opening.proofs.Keeping.{from_is, ticket-early, group-count}
 use Rattle.opening.proofs.Answering.{Lengths, lengths-told, entries-filled, state_as, state-sound}
 
@@ -58,11 +64,8 @@ ending-refusals slots (stands next walk) refusal place f e =
 
 module _ (log home : List ℕ) (count : ℕ) (found : FoundWalk) (frames : List ℕ) (slots pages : ℕ)
     (x : Keeps log home count (finding slots pages count log home) found frames) where
-  pub kept-range : (found.walk.stage.refusal ≡ 0 → ⊥) → (7 ≤ found.walk.stage.refusal) × (found.walk.stage.refusal ≤ 9)
-  kept-range n = ending-refusals (slots_in (length log)) (finding slots pages count log home) _ found.walk.stage.place (finding-refusals slots pages count log home) (x.refused n)
-
-  pub kept_next : found.walk.stage.refusal ≡ 0 → found.newest + 1 ≤ 2 ^ 48
-  kept_next z = omega (arith, (x.accepted z).accepts.newest_below)
+  pub kept-range : (found.walk.refusal ≡ 0 → ⊥) → (7 ≤ found.walk.refusal) × (found.walk.refusal ≤ 9)
+  kept-range n = ending-refusals (slots_in (length log)) (finding slots pages count log home) _ found.walk.place (finding-refusals slots pages count log home) (x.refused n)
 
 -- ---- from the finding to the promise
 
@@ -85,7 +88,7 @@ as_copy stored s = record {
   copy = true;
 }
 
-module _ (log home frames : List ℕ) (r : OpenOutcome) (frames' : List ℕ) where
+module _ (log home frames : List ℕ) (r : Outcome ℕ Stop) (frames' : List ℕ) where
   -- refused
   copy-stopped : (refusal place : ℕ) → copy_finding log home (length frames) ≡ stops refusal place → OpenStops refusal place frames r frames'
       → OpensCopy log home frames r frames'
@@ -119,20 +122,20 @@ module _ (log home frames : List ℕ) (r : OpenOutcome) (frames' : List ℕ) whe
     told = copy-lengths-told (length log) (length home) (length frames) fit
 
     -- after 7, 8 and 9 the frames are zero
-    pub copy-refused : (found.walk.stage.refusal ≡ 0 → ⊥) → open_answered r.answer ≡ refuses found.walk.stage.refusal → place_in r.answer ≡ found.walk.stage.place
+    pub copy-refused : (found.walk.refusal ≡ 0 → ⊥) → open_answered r.answer ≡ refuses found.walk.refusal → place_in r.answer ≡ found.walk.place
         → r.state ≡ all_zero_state → length mid ≡ length frames → frames' ≡ replicate (length mid) 0 → OpensCopy log home frames r frames'
     copy-refused n a p s l f =
-        copy-stopped found.walk.stage.refusal found.walk.stage.place (by_lengths true fit ∙ x.refused n)
+        copy-stopped found.walk.refusal found.walk.place (by_lengths true fit ∙ x.refused n)
         record {
           answer_is = a;
           place_is = p;
           state_is = s;
           frames_are = f ∙ ap (λ (m : ℕ). replicate m 0) l
-              ∙ sym (ap (λ (b : Bool). cond b frames (replicate (length frames) 0)) (ne_eqb found.walk.stage.refusal 1 (λ q. absurd (omega (arith, (kept-range log home (frames_in (length frames)) found mid (slots_in (length log)) (pages_in (length home)) x n).0)))));
+              ∙ sym (ap (λ (b : Bool). cond b frames (replicate (length frames) 0)) (ne_eqb found.walk.refusal 1 (λ q. absurd (omega (arith, (kept-range log home (frames_in (length frames)) found mid (slots_in (length log)) (pages_in (length home)) x n).0)))));
         }
 
     -- an opened copy's state is sound, whatever the log holds
-    module _ (z : found.walk.stage.refusal ≡ 0) where
+    module _ (z : found.walk.refusal ≡ 0) where
       abbrev acc : Accepts log home (finding (slots_in (length log)) (pages_in (length home)) (frames_in (length frames)) log home) found mid
       acc = (x.accepted z).accepts
 
@@ -176,3 +179,37 @@ module _ (log home frames : List ℕ) (r : OpenOutcome) (frames' : List ℕ) whe
             dirty_are = λ page. ap (λ (y : State). look_up page (dirty_of y frames')) s
                 ∙ ap (λ (y : List ℕ). look_up page (dirty_of state y)) f ∙ holds.looks page;
           }
+
+-- what is answered to what was found: a copy's state is a desk's with its half group
+module _ (log home frames : List ℕ) (o : Outcome ℕ Stop) (frames' : List ℕ) (fit : copy_lengths_fit (length log) (length home) (length frames) ≡ true)
+    (found : Result Found Stop) (seats lent mid : List ℕ) (long : length seats ≡ frames_in (length frames)) (e : lent ≡ seats) (l : length mid ≡ length frames)
+    (x : Keeps log home (frames_in (length frames)) (finding (slots_in (length log)) (pages_in (length home)) (frames_in (length frames)) log home) (found_of found seats) mid)
+    (m : MatchResult found
+    (λ f. (o ≡ outcome_found (pages_in (length home)) (slots_in (length log)) (frames_in (length mid)) f (dirty_in lent)) × (frames' ≡ mid))
+    (λ stop. (o ≡ outcome_refused stop) × (frames' ≡ replicate (length mid) 0))) where
+  pub copy-found : (f : Found) → found ≡ Ok f → OpensCopy log home frames (record { state = as_copy f.stage.count o.state; answer = o.answer }) frames'
+  copy-found f q =
+      let t : Lengths (length log) (length home) (length frames) (staging_length (frames_in (length frames))) = copy-lengths-told (length log) (length home) (length frames) fit in
+      let y = subst (λ (z : Result Found Stop). Keeps log home (frames_in (length frames)) (finding (slots_in (length log)) (pages_in (length home)) (frames_in (length frames)) log home) (found_of z seats) mid) q x in
+      let told =
+      subst (λ (z : Result Found Stop). MatchResult z
+      (λ f. (o ≡ outcome_found (pages_in (length home)) (slots_in (length log)) (frames_in (length mid)) f (dirty_in lent)) × (frames' ≡ mid))
+      (λ stop. (o ≡ outcome_refused stop) × (frames' ≡ replicate (length mid) 0))) q m in
+      copy-accepted log home frames (record { state = as_copy f.stage.count o.state; answer = o.answer }) frames' fit (found_of (Ok f) seats) mid y refl
+      (ap (λ (w : Outcome ℕ Stop). open_answered w.answer) told.0)
+      (ap (λ (w : Outcome ℕ Stop). as_copy f.stage.count w.state) told.0
+      ∙ ap (λ (n : ℕ). as_copy f.stage.count (opened_state (pages_in (length home)) (slots_in (length log)) (frames_in n) (f.newest + 1) f.stage.ticket (dirty_in lent))) l
+      ∙ ap (λ (es : List ℕ). as_copy f.stage.count (opened_state (pages_in (length home)) (slots_in (length log)) (frames_in (length frames)) (f.newest + 1) f.stage.ticket (dirty_in es))) e)
+      (length-dirty seats (omega (arith, long, t.frames_most))) (free-zero seats) l told.1
+
+pub copy-not-found : (log home frames : List ℕ) (o : Outcome ℕ Stop) (frames' : List ℕ) → copy_lengths_fit (length log) (length home) (length frames) ≡ true
+    → (found : Result Found Stop) (seats lent mid : List ℕ) → length mid ≡ length frames
+    → Keeps log home (frames_in (length frames)) (finding (slots_in (length log)) (pages_in (length home)) (frames_in (length frames)) log home) (found_of found seats) mid
+    → MatchResult found
+    (λ f. (o ≡ outcome_found (pages_in (length home)) (slots_in (length log)) (frames_in (length mid)) f (dirty_in lent)) × (frames' ≡ mid))
+    (λ stop. (o ≡ outcome_refused stop) × (frames' ≡ replicate (length mid) 0))
+    → ((f : Found) → found ≡ Ok f → ⊥) → OpensCopy log home frames o frames'
+copy-not-found log home frames o frames' fit (Ok f) seats lent mid l x m n = absurd (n f refl)
+copy-not-found log home frames o frames' fit (Err stop) seats lent mid l x m n =
+    copy-refused log home frames o frames' fit (found_of (Err stop) seats) mid x (numbered _)
+    (ap (λ (w : Outcome ℕ Stop). open_answered w.answer) m.0) (ap (λ (w : Outcome ℕ Stop). place_in w.answer) m.0) (ap (λ (w : Outcome ℕ Stop). w.state) m.0) l m.1

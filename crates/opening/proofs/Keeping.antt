@@ -1,6 +1,6 @@
 -- The last test of a copy: its half group's start counts, as in `kept_ending`.
 -- Assumes nothing.
-use mathlib.Core.Path.{◌≡◌, sym, ap, ◌∙◌, subst}
+use mathlib.Core.Path.{◌≡◌, sym, ap, ◌∙◌}
 use mathlib.Core.Bool.{Bool, true, false, cond}
 use mathlib.Core.List.{List, [], ◌∷◌}
 use Prim.Native.Nat.{ℕ, ◌+◌, ◌-◌, ◌<◌}
@@ -9,7 +9,6 @@ use native.Mathlib.Decide.{ℕ_discrete}
 use lib.Dec.{eqb}
 use lib.ListN.{length}
 use borrow.Author.Tests.{eq-eqb, ne_eqb}
-use Rattle.area.proofs.Laws.{by_cases}
 use Rattle.promises.specs.Areas.{slots_in}
 use Rattle.promises.specs.Updates.{Update}
 use Rattle.promises.specs.DirtyPages.{keep_from_of}
@@ -20,22 +19,8 @@ use Rattle.promises.specs.CopyOpen.{kept_ending}
 use Rattle.recovery.specs.declared.Stage.{Stage}
 use Rattle.recovery.specs.Walking.{Walk, refused_at, span_fits, Ready, Stands}
 use Rattle.recovery.proofs.Groups.{group-length}
-use Rattle.opening.specs.Findings.{FoundWalk, Accepts, Finds, kept_from, Testable, kept, Keeps}
+use Rattle.opening.specs.Findings.{FoundWalk, Accepts, Finds, kept_from, Keeps}
 use Rattle.opening.proofs.Ending.{span-is}
-
--- ---- what the code's test makes of a walk
-
-module _ (slots last : ℕ) (walk : Walk) where
-  pub kept-not : (walk.stage.refusal ≡ 0 → ⊥) → walk ≡ kept slots last walk
-  unfolding kept
-  kept-not n = sym (ap (λ (b : Bool). cond b (cond (span_fits walk.table slots (last + 1) (kept_from walk.stage (last + 1))) walk (refused_at walk 8 last)) walk) (ne_eqb _ _ n))
-
-  pub kept_by : (b : Bool) → walk.stage.refusal ≡ 0 → span_fits walk.table slots (last + 1) (kept_from walk.stage (last + 1)) ≡ b
-      → cond b walk (refused_at walk 8 last) ≡ kept slots last walk
-  unfolding kept
-  kept_by b e f =
-      sym (ap (λ (c : Bool). cond c (cond (span_fits walk.table slots (last + 1) (kept_from walk.stage (last + 1))) walk (refused_at walk 8 last)) walk) (eq-eqb _ _ e)
-      ∙ ap (λ (c : Bool). cond c walk (refused_at walk 8 last)) f)
 
 -- ---- where a half group starts
 
@@ -85,13 +70,7 @@ module _ (log home : List ℕ) (count : ℕ) (found : Finding) (r : FoundWalk) (
   abbrev N : ℕ
   N = slots_in (length log)
 
-  abbrev after : Walk → FoundWalk
-  after walk = record { newest = r.newest; walk = walk }
-
-  pub testable : r.walk.stage.refusal ≡ 0 → Testable r.walk.stage r.newest
-  testable z = ((x.accepted z).newest_below, omega (arith, from_is log home (r.newest + 1) r.walk (x.accepted z).ready))
-
-  module _ (z : r.walk.stage.refusal ≡ 0) where
+  module _ (z : r.walk.refusal ≡ 0) where
     abbrev acc : Accepts log home found r frames
     acc = x.accepted z
 
@@ -102,16 +81,16 @@ module _ (log home : List ℕ) (count : ℕ) (found : Finding) (r : FoundWalk) (
         ∙ ap (λ (t : Bool). cond t (stands (r.newest + 1) acc.paper) (stops 8 (r.newest + 1 - 1)))
         (test-is log home (r.newest + 1) r.walk frames acc.paper acc.stands_for N ∙ e)
 
-    passes : span_fits r.walk.table N (r.newest + 1) (kept_from r.walk.stage (r.newest + 1)) ≡ true → Keeps log home count found r frames
-    passes e = record {
+    pub keeps-passes : span_fits r.walk.table N (r.newest + 1) (kept_from r.walk.stage (r.newest + 1)) ≡ true → Keeps log home count found r frames
+    keeps-passes e = record {
       count_is = x.count_is;
       refused = λ n. absurd (n z);
       accepted = λ y. record { accepts = acc; kept_is = by-test true e; half_within = e };
     }
 
-    fails : span_fits r.walk.table N (r.newest + 1) (kept_from r.walk.stage (r.newest + 1)) ≡ false
-        → Keeps log home count found (after (refused_at r.walk 8 r.newest)) frames
-    fails e = record {
+    pub keeps-fails : span_fits r.walk.table N (r.newest + 1) (kept_from r.walk.stage (r.newest + 1)) ≡ false
+        → Keeps log home count found (record { newest = 0; walk = refused_at r.walk 8 r.newest }) frames
+    keeps-fails e = record {
       count_is = x.count_is;
       refused = λ n. by-test false e ∙ ap (stops 8) one_less;
       accepted = λ y. absurd (omega arith);
@@ -119,14 +98,3 @@ module _ (log home : List ℕ) (count : ℕ) (found : Finding) (r : FoundWalk) (
       where
         one_less : r.newest + 1 - 1 ≡ r.newest
         one_less = omega arith
-
-  pub keeps : (walk : Walk) → walk ≡ kept N r.newest r.walk → Keeps log home count found (after walk) frames
-  keeps walk e =
-      subst (λ (w : Walk). Keeps log home count found (after w) frames) (sym e)
-      (elim (ℕ_discrete r.walk.stage.refusal 0) [
-        | yes z ↦ by_cases (span_fits r.walk.table N (r.newest + 1) (kept_from r.walk.stage (r.newest + 1)))
-            (λ f. subst (λ (w : Walk). Keeps log home count found (after w) frames) (kept_by N r.newest r.walk true z f) (passes z f))
-            (λ f. subst (λ (w : Walk). Keeps log home count found (after w) frames) (kept_by N r.newest r.walk false z f) (fails z f))
-        | no n ↦ subst (λ (w : Walk). Keeps log home count found (after w) frames) (kept-not N r.newest r.walk n)
-            record { count_is = x.count_is; refused = λ m. ap (kept_ending N) (x.refused n); accepted = λ y. absurd (n y) }
-      ])

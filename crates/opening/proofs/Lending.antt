@@ -4,7 +4,7 @@ use mathlib.Core.Path.{◌≡◌, sym, ap, ◌∙◌}
 use mathlib.Core.List.{List, ◌++◌}
 use Prim.Native.Nat.{ℕ, ◌+◌, ◌-◌, ◌≤◌}
 use native.Mathlib.Omega.{arith}
-use lib.ListN.{length, take, replicate, length-append, length-replicate, replicate-append-replicate}
+use lib.ListN.{length, take, replicate, length-replicate, replicate-append-replicate}
 use lib.Seq.{take_at}
 
 pub lent-seats : (n : ℕ) → n ≤ 32 → take {A = ℕ} n (replicate 32 0) ≡ replicate n 0
@@ -19,15 +19,5 @@ lent-seats n h =
 pub lent-long : (n : ℕ) → n ≤ 32 → length (take {A = ℕ} n (replicate 32 0)) ≡ n
 lent-long n h = ap length (lent-seats n h) ∙ length-replicate n 0
 
-module _ (n : ℕ) (seats rest : List ℕ) (e : length seats ≡ n) where
-  pub seats-room : n ≤ length (seats ++ rest)
-  seats-room = omega (arith, length-append seats rest)
-
-  pub seats-back : take n (seats ++ rest) ≡ seats
-  seats-back = take_at seats rest n e
-
-  pub seats-long : n ≡ length (take n (seats ++ rest))
-  seats-long = sym (ap length seats-back ∙ e)
-
-  pub seats-few : n ≤ 32 → length (take n (seats ++ rest)) ≤ 32
-  seats-few h = omega (arith, seats-long)
+pub seats-back : (n : ℕ) (seats rest : List ℕ) → length seats ≡ n → take n (seats ++ rest) ≡ seats
+seats-back n seats rest e = take_at seats rest n e

@@ -152,7 +152,7 @@ fields_from sequence [] = []
 fields_from sequence (block ∷ list) =
     record { sequence = sequence; keep_from = block.keep_from; kind = form_of block.kind; ticket = block.ticket } ∷ fields_from (suc sequence) list
 
-steps-stopped : (frames : ℕ) (list : List Block) (refusal place : ℕ) → steps frames list (stops refusal place) ≡ stops refusal place
+pub steps-stopped : (frames : ℕ) (list : List Block) (refusal place : ℕ) → steps frames list (stops refusal place) ≡ stops refusal place
 unfolding steps
 steps-stopped frames [] refusal place = refl
 steps-stopped frames (block ∷ list) refusal place = steps-stopped frames list refusal place

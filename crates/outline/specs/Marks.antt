@@ -1,11 +1,9 @@
 -- Dirty pages without their bytes: pages with their first groups, in the order in which `apply` of the dirty pages keeps them.
 -- Assumes nothing.
-use Rattle.std.specs.Prelude.{ℕ, suc, min, cond, List, [], ◌∷◌, take, eqb}
+use Rattle.std.specs.Prelude.{ℕ, min, cond, List, [], ◌∷◌, eqb}
 use Rattle.promises.specs.Updates.{Update}
 use Rattle.promises.specs.DirtyPages.{DirtyPage}
 use Rattle.outline.specs.declared.Mark.{Mark}
-use Rattle.outline.specs.declared.Marks.{Marks}
-use Rattle.outline.specs.declared.Group.{Group}
 
 -- ---- what is left of the promised walk's lists without bytes
 
@@ -17,20 +15,7 @@ abbrev pub pages_of : List Update → List ℕ
 pages_of [] = []
 pages_of (update ∷ updates) = update.page ∷ pages_of updates
 
--- ---- what the structs hold
-
-abbrev pub marks_in : Marks → List Mark
-marks_in marks = take marks.count marks.entries
-
-abbrev pub pages_in : Group → List ℕ
-pages_in group = take group.count group.pages
-
 -- ---- what becomes of marks
-
--- the place of a page; the length where it is not there
-unfoldable pub place_of : ℕ → List Mark → ℕ
-place_of page [] = 0
-place_of page (mark ∷ marks) = cond (eqb page mark.page) 0 (suc (place_of page marks))
 
 -- a page is dirty from this group on, unless it was dirty before
 unfoldable pub marked : ℕ → ℕ → List Mark → List Mark

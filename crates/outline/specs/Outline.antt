@@ -1,19 +1,20 @@
 -- Open's walk without bytes, block by block, over the fields of the blocks alone. That it is the promised walk with the bytes left out is
 -- proved in proofs/Alike.antt.
 -- Assumes nothing.
-use Rattle.std.specs.Prelude.{ℕ, suc, ◌+◌, ◌-◌, ◌≤◌, ◌<◌, ◌≡◌, Bool, true, cond, List, [], ◌∷◌, ◌++◌, length, eqb, leb}
+use Rattle.std.specs.Prelude.{ℕ, suc, ◌+◌, ◌-◌, ◌≤◌, ◌<◌, ◌≡◌, Bool, true, cond, List, [], ◌∷◌, ◌++◌, length, eqb, leb, Result, Ok, Err, MatchResult}
 use Rattle.block.specs.Sizes.{sequence_end, group_most}
 use Rattle.block.specs.declared.Block.{Block}
 use Rattle.block.specs.declared.Kind.{Kind}
 use Rattle.block.specs.declared.Kind.TheVariants.{Update, Commit, Clean}
+use Rattle.promises.specs.declared.Stop.{Stop}
+use Rattle.promises.specs.Answers.{number_of}
 use Rattle.promises.specs.Blocks.{kind_in}
 use Rattle.promises.specs.Walk.{Walk, Finding, stops as finding_stops, stands as finding_stands}
 use Rattle.recovery.specs.Order.{in_order_after}
+use Rattle.arrayvec.specs.ArrayVec.{array_vec_len}
 use Rattle.outline.specs.declared.Mark.{Mark}
-use Rattle.outline.specs.declared.Marks.{Marks}
-use Rattle.outline.specs.declared.Group.{Group}
 use Rattle.outline.specs.declared.Course.{Course}
-use Rattle.outline.specs.Marks.{marks_of, pages_of, marks_in, pages_in, marked_all, unmarked, earliest}
+use Rattle.outline.specs.Marks.{marks_of, pages_of, marked_all, unmarked, earliest}
 
 -- a walk without bytes
 pub record Outline : Type 0 where
@@ -87,19 +88,21 @@ ended slots (stands next outline) =
 
 abbrev pub outline_in : Course → Outline
 outline_in course = record {
-  group = pages_in course.group;
+  group = course.group.pages.items;
   start = course.group.start;
   ticket = course.ticket;
-  marks = marks_in course.marks;
+  marks = course.marks.items;
 }
 
-unfoldable pub sketch_in : Course → Sketch
-sketch_in course = cond (eqb course.refusal 0) (stands course.place (outline_in course)) (stops course.refusal course.place)
+-- a walk that stands, or the stop of one that is refused
+abbrev pub sketch_in : Result Course Stop → Sketch
+sketch_in (Ok course) = stands course.next (outline_in course)
+sketch_in (Err stop) = stops (number_of stop.refusal) stop.place
 
 -- a half group has at most 16 updates, at most 32 pages are dirty, and the ticket is below 2^48
 pub record Bounded (course : Course) : Type 0 where
-  pub few : course.group.count ≤ group_most
-  pub framed : course.marks.count ≤ 32
+  pub few : array_vec_len course.group.pages ≤ group_most
+  pub framed : array_vec_len course.marks ≤ 32
   pub ticket_below : course.ticket < sequence_end
 
 -- an update's index is at most 16
@@ -113,32 +116,15 @@ pub record Ordinary (block : Block) : Type 0 where
   pub indexed : Indexed block.kind
   pub ticket_below : block.ticket < sequence_end
 
--- the walk refused at its place
-abbrev pub refused_as : Course → ℕ → Course
-refused_as course refusal = record {
-  refusal = refusal;
-  place = course.place;
-  ticket = course.ticket;
-  group = course.group;
-  marks = course.marks;
-}
-
--- the walk one place further
-abbrev pub advanced_to : Course → ℕ → Group → Marks → Course
-advanced_to course ticket group marks = record { refusal = course.refusal; place = course.place + 1; ticket = ticket; group = group; marks = marks }
-
 -- what a block of this kind and ticket makes of a walk
-pub record Turns (kind : Kind) (ticket : ℕ) (course result : Course) : Type 0 where
-  pub sketch_is : sketch_in result ≡ turned 32 kind ticket course.place (outline_in course)
-  pub bounded : Bounded result
-  pub place_least : course.place ≤ result.place
-  pub place_most : result.place ≤ course.place + 1
+pub record Turns (kind : Kind) (ticket : ℕ) (course : Course) (result : Result Course Stop) : Type 0 where
+  pub sketch_is : sketch_in result ≡ turned 32 kind ticket course.next (outline_in course)
+  pub next_is : MatchResult result (λ walked. Bounded walked × (walked.next ≡ course.next + 1)) (λ stop. stop.place ≡ course.next)
 
 -- what the walk needs to meet a block of this kind and ticket
 pub record Meets (kind : Kind) (ticket : ℕ) (course : Course) : Type 0 where
-  pub going : course.refusal ≡ 0
   pub bounded : Bounded course
-  pub place_below : course.place < sequence_end
+  pub next_below : course.next < sequence_end
   pub indexed : Indexed kind
   pub ticket_below : ticket < sequence_end
 

@@ -11,11 +11,10 @@ use lib.Seq.{take-suc-set, drop-drop, length-take-le}
 use lib.Dec.{eqb, leb, ltb}
 use borrow.Author.Tests.{leb-true, ltb-true, eqb-true, eqb-false, le-leb, lt-ltb, eq-eqb, ne_eqb}
 use Rattle.area.proofs.Laws.{and_both, and2}
+use Rattle.std.specs.Prelude.{Ok}
 use Rattle.promises.specs.declared.State.{State}
 use Rattle.promises.specs.declared.Dirty.{Dirty}
 use Rattle.promises.specs.declared.Cleaning.{Cleaning}
-use Rattle.promises.specs.declared.Answer.TheVariants.{Done}
-use Rattle.promises.specs.declared.Ended.TheVariants.{Ticket}
 use Rattle.promises.specs.declared.Logged.TheVariants.{Stored}
 use Rattle.promises.specs.Updates.{Update}
 use Rattle.promises.specs.Areas.{page_at}
@@ -88,7 +87,7 @@ sound-opened s u f z lo hi a b c =
       mark = f.mark;
     })
 
-pub begin-met : (s : State) (u : ℕ) → begin_refusal s u ≡ 0 → Begins s u (record { state = begun_state s u; answer = Done })
+pub begin-met : (s : State) (u : ℕ) → begin_refusal s u ≡ 0 → Begins s u (record { state = begun_state s u; answer = Ok tt })
 unfolding begin_refusal
 begin-met s u e =
     let c2 = pick-zero (sound s) _ 2 (omega arith) e in
@@ -185,7 +184,7 @@ sound-closed s f n m h =
       mark = f.mark;
     })
 
-pub end-met : (s : State) → length s.groups ≡ 32 → end_refusal s ≡ 0 → Ends s (record { state = ended_state s; answer = Ticket (s.ticket + s.queued + 1) })
+pub end-met : (s : State) → length s.groups ≡ 32 → end_refusal s ≡ 0 → Ends s (record { state = ended_state s; answer = Ok (s.ticket + s.queued + 1) })
 unfolding end_refusal
 end-met s l e =
     let c2 = pick-zero (sound s) _ 2 (omega arith) e in
@@ -281,7 +280,7 @@ sound-update s staging g q f e h =
 
 -- the promise of an update's store, met by this state and a log with the block in its slot
 pub update-met : (s : State) (g : List Update) (q : List (List Update)) (log frames staging : List ℕ) → sound s ≡ true → queue_of s staging ≡ g ∷ q → s.stored < length g
-    → UpdateStep s g log frames staging (record { state = update_stored_state s; answer = Stored }) (stored s.slots log s.next (update_block s g (dirty_of s frames))) frames
+    → UpdateStep s g log frames staging (record { state = update_stored_state s; answer = Ok Stored }) (stored s.slots log s.next (update_block s g (dirty_of s frames))) frames
 update-met s g q log frames staging so e h =
     record { answer_is = refl; log_is = refl; frames_are = refl; state_is = refl; stays_sound = of-sound (update_stored_state s) (sound-update s staging g q (sound-of s so) e h); contents_are = refl; dirty_are = λ p. refl }
 

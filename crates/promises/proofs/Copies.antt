@@ -11,11 +11,13 @@ use lib.ListN.{length, take, drop, set, length-append, length-take, length-drop}
 use lib.Dec.{eqb}
 use Rattle.area.specs.Part.{part}
 use Rattle.area.proofs.Parts.{length-splice}
+use Rattle.promises.specs.declared.Outcome.{Outcome}
+use Rattle.promises.specs.declared.Stop.{Stop}
+use Rattle.promises.specs.declared.Fed.{Fed}
 use Rattle.promises.specs.declared.State.{State}
 use Rattle.promises.specs.declared.Dirty.{Dirty}
 use Rattle.promises.specs.declared.Cleaning.{Cleaning}
 use Rattle.promises.specs.declared.Cleaning.TheVariants.{Second, Third}
-use Rattle.promises.specs.declared.FeedOutcome.{FeedOutcome}
 use Rattle.promises.specs.Areas.{page_at, with_slot, with_first_half, with_second_half}
 use Rattle.promises.specs.Updates.{Update, redo, of_page}
 use Rattle.promises.specs.Blocks.{Kind, update, commit, clean, LogBlock, Slot, valid, slots_of}
@@ -269,7 +271,7 @@ module _ (z : Sizes) (range : Ranged z) (s : State) (log home frames : List ℕ)
   pages-after so (clean q) p h = g.pages_are p h
 
   -- A BLOCK IS TAKEN
-  pub do-taken : (bytes : List ℕ) (x y : LogBlock) → Passed s log home frames bytes x (takes y) → (result : FeedOutcome) (log' home' frames' : List ℕ)
+  pub do-taken : (bytes : List ℕ) (x y : LogBlock) → Passed s log home frames bytes x (takes y) → (result : Outcome Fed Stop) (log' home' frames' : List ℕ)
       → Takes s log home frames bytes x.kind (after s log home frames x) result log' home' frames' → CopyGood z result.state log' home' frames' (took x.kind b) (history ++ (x ∷ []))
   do-taken bytes x y p result log' home' frames' t =
       let so = p.is_sound in
@@ -329,7 +331,7 @@ module _ (z : Sizes) (range : Ranged z) (w : World) (b : CopyBook) {history : Li
   unfolding took_all
   one-taken w' x h = h
 
-  as_before : (result : FeedOutcome) (log' home' frames' : List ℕ) → Same w.state w.log w.home w.frames result log' home' frames' → CopyGood z result.state log' home' frames' b history
+  as_before : (result : Outcome Fed Stop) (log' home' frames' : List ℕ) → Same w.state w.log w.home w.frames result log' home' frames' → CopyGood z result.state log' home' frames' b history
   as_before result log' home' frames' q =
       subst (λ (a : List ℕ). CopyGood z result.state log' home' a b history) (sym q.frames_are)
       (subst (λ (a : List ℕ). CopyGood z result.state log' a w.frames b history) (sym q.home_is)

@@ -16,12 +16,12 @@ use Rattle.block.specs.Layout.{middle, header, body, check, layout}
 use Rattle.block.specs.Legal.{legal}
 use Rattle.block.specs.Slot as format
 use Rattle.block.specs.Slot.{all_zero, same, number_at, fields_at, block_at, judged}
+use Rattle.std.specs.Prelude.{Ok, Err}
 use Rattle.promises.specs.declared.State.{State}
 use Rattle.promises.specs.declared.Dirty.{Dirty}
 use Rattle.promises.specs.declared.Cleaning.{Cleaning}
 use Rattle.promises.specs.declared.Cleaning.TheVariants.{Idle, Second, Third}
-use Rattle.promises.specs.declared.Opened.TheVariants.{Settled}
-use Rattle.promises.specs.declared.Fed.TheVariants.{Refused, Had, NotYet, Taken}
+use Rattle.promises.specs.declared.Fed.TheVariants.{Had, NotYet, Taken}
 use Rattle.promises.specs.declared.Refusal.TheVariants.{SequenceAhead}
 use Rattle.promises.specs.Areas.{with_slot, with_first_half, with_second_half, first_half, second_half}
 use Rattle.promises.specs.Updates.{put}
@@ -114,50 +114,50 @@ abbrev half : Walk
 half = record { group = record { page = 0; offset = 0; bytes = 42 ∷ [] } ∷ []; start = 1; ticket = 0; dirty_pages = [] }
 
 -- it opens on the zero log, and, once it has the update, on that: the half group is kept
-pub opens-empty : OpensCopy log₀ home frames (record { state = state 1 0 0 0 Idle; answer = Settled 0 }) frames
+pub opens-empty : OpensCopy log₀ home frames (record { state = state 1 0 0 0 Idle; answer = Ok 0 }) frames
 unfolding copy_finding finding gathered all_unused newest slots_from slot_at part walk_from judged all_zero keep_from_of sound_as first_groups dirty_numbers dirty_from
 opens-empty = copy-accepts log₀ home frames _ frames 1 (start_with 0) refl
     (record { answer_is = refl; frames_long = refl; fills = none_filled; state_is = refl; stays_sound = refl; dirty_are = λ p. refl })
 
-pub opens-half : OpensCopy log₁ home frames (record { state = state 2 0 1 0 Idle; answer = Settled 0 }) frames
+pub opens-half : OpensCopy log₁ home frames (record { state = state 2 0 1 0 Idle; answer = Ok 0 }) frames
 unfolding copy_finding finding gathered gather all_unused newest slots_from slot_at part splice walk_from walk_block in_order framed judged all_zero format.valid same number_at fields_at block_at from_bytes to_bytes plain weighted check_a check_b kind_of middle header body check layout legal written keep_from_of sound_as first_groups dirty_numbers dirty_from
 opens-half = copy-accepts log₁ home frames _ frames 2 half refl
     (record { answer_is = refl; frames_long = refl; fills = none_filled; state_is = refl; stays_sound = refl; dirty_are = λ p. refl })
 
 -- the update is taken
-pub fed-one : Feeds (state 1 0 0 0 Idle) log₀ home frames (written 1 one) (record { state = state 2 0 1 0 Idle; answer = Taken }) log₁ home frames
+pub fed-one : Feeds (state 1 0 0 0 Idle) log₀ home frames (written 1 one) (record { state = state 2 0 1 0 Idle; answer = Ok Taken }) log₁ home frames
 unfolding feeding turned updates_from lacking slots_from slot_at part splice walk_block in_order framed judged all_zero format.valid same number_at fields_at block_at from_bytes to_bytes plain weighted check_a check_b kind_of middle header body check layout legal written keep_from_of sound_as first_groups dirty_numbers dirty_from look_up
 fed-one = feeds-taken (state 1 0 0 0 Idle) log₀ home frames (written 1 one) _ log₁ home frames one refl
     (record { answer_is = refl; log_is = refl; home_is = refl; frames_are = (refl, refl); state_is = refl; stays_sound = refl; dirty_are = λ p. refl })
 
 -- the commit is taken: its update comes from the copy's own log
-pub fed-two : Feeds (state 2 0 1 0 Idle) log₁ home frames (written 2 two) (record { state = state 3 1 0 1 Idle; answer = Taken }) log₂ home frames'
+pub fed-two : Feeds (state 2 0 1 0 Idle) log₁ home frames (written 2 two) (record { state = state 3 1 0 1 Idle; answer = Ok Taken }) log₂ home frames'
 unfolding feeding turned updates_from lacking slots_from slot_at part splice walk_block in_order framed judged all_zero format.valid same number_at fields_at block_at from_bytes to_bytes plain weighted check_a check_b kind_of middle header body check layout legal written keep_from_of sound_as first_groups dirty_numbers dirty_from look_up apply_all apply put
 fed-two = feeds-taken (state 2 0 1 0 Idle) log₁ home frames (written 2 two) _ log₂ home frames' two refl
     (record { answer_is = refl; log_is = refl; home_is = refl; frames_are = (one-filled, refl); state_is = refl; stays_sound = refl; dirty_are = λ p. refl })
 
 -- the clean block: both halves, then the block
-pub fed-first : Feeds (state 3 1 0 1 Idle) log₂ home frames' (written 3 three) (record { state = state 3 1 0 1 (Second 0); answer = NotYet }) log₂ home₁ frames'
+pub fed-first : Feeds (state 3 1 0 1 Idle) log₂ home frames' (written 3 three) (record { state = state 3 1 0 1 (Second 0); answer = Ok NotYet }) log₂ home₁ frames'
 unfolding feeding turned updates_from lacking slots_from slot_at part splice walk_block in_order framed judged all_zero format.valid same number_at fields_at block_at from_bytes to_bytes plain weighted check_a check_b kind_of middle header body check layout legal written keep_from_of sound_as first_groups dirty_numbers dirty_from look_up without
 fed-first = feeds-first (state 3 1 0 1 Idle) log₂ home frames' (written 3 three) _ log₂ home₁ frames' 0 entry refl
     (record { answer_is = refl; log_is = refl; home_is = refl; frames_are = refl; state_is = refl; stays_sound = refl })
 
-pub fed-second : Feeds (state 3 1 0 1 (Second 0)) log₂ home₁ frames' (written 3 three) (record { state = state 3 1 0 1 (Third 0); answer = NotYet }) log₂ home₂ frames'
+pub fed-second : Feeds (state 3 1 0 1 (Second 0)) log₂ home₁ frames' (written 3 three) (record { state = state 3 1 0 1 (Third 0); answer = Ok NotYet }) log₂ home₂ frames'
 unfolding feeding turned updates_from lacking slots_from slot_at part splice walk_block in_order framed judged all_zero format.valid same number_at fields_at block_at from_bytes to_bytes plain weighted check_a check_b kind_of middle header body check layout legal written keep_from_of sound_as first_groups dirty_numbers dirty_from look_up without
 fed-second = feeds-second (state 3 1 0 1 (Second 0)) log₂ home₁ frames' (written 3 three) _ log₂ home₂ frames' 0 entry refl
     (record { answer_is = refl; log_is = refl; home_is = refl; frames_are = refl; state_is = refl; stays_sound = refl })
 
-pub fed-three : Feeds (state 3 1 0 1 (Third 0)) log₂ home₂ frames' (written 3 three) (record { state = state 4 1 0 0 Idle; answer = Taken }) log₃ home₂ frames'
+pub fed-three : Feeds (state 3 1 0 1 (Third 0)) log₂ home₂ frames' (written 3 three) (record { state = state 4 1 0 0 Idle; answer = Ok Taken }) log₃ home₂ frames'
 unfolding feeding turned updates_from lacking slots_from slot_at part splice walk_block in_order framed judged all_zero format.valid same number_at fields_at block_at from_bytes to_bytes plain weighted check_a check_b kind_of middle header body check layout legal written keep_from_of sound_as first_groups dirty_numbers dirty_from look_up without freed
 fed-three = feeds-taken (state 3 1 0 1 (Third 0)) log₂ home₂ frames' (written 3 three) _ log₃ home₂ frames' three refl
     (record { answer_is = refl; log_is = refl; home_is = refl; frames_are = (refl, refl); state_is = refl; stays_sound = refl; dirty_are = λ p. refl })
 
 -- the update once more: already had; a block too far ahead: 14
-pub fed-again : Feeds (state 4 1 0 0 Idle) log₃ home₂ frames' (written 1 one) (record { state = state 4 1 0 0 Idle; answer = Had }) log₃ home₂ frames'
+pub fed-again : Feeds (state 4 1 0 0 Idle) log₃ home₂ frames' (written 1 one) (record { state = state 4 1 0 0 Idle; answer = Ok Had }) log₃ home₂ frames'
 unfolding feeding turned slots_from slot_at part splice judged all_zero format.valid same number_at fields_at block_at from_bytes to_bytes plain weighted check_a check_b kind_of middle header body check layout legal written sound_as first_groups dirty_numbers
 fed-again = feeds-had (state 4 1 0 0 Idle) log₃ home₂ frames' (written 1 one) _ log₃ home₂ frames' refl refl (record { state_is = refl; log_is = refl; home_is = refl; frames_are = refl })
 
-pub fed-ahead : Feeds (state 1 0 0 0 Idle) log₀ home frames (written 2 two) (record { state = state 1 0 0 0 Idle; answer = Refused SequenceAhead 0 }) log₀ home frames
+pub fed-ahead : Feeds (state 1 0 0 0 Idle) log₀ home frames (written 2 two) (record { state = state 1 0 0 0 Idle; answer = Err (record { refusal = SequenceAhead; place = 0 }) }) log₀ home frames
 unfolding feeding turned slots_from slot_at part splice judged all_zero format.valid same number_at fields_at block_at from_bytes to_bytes plain weighted check_a check_b kind_of middle header body check layout legal written sound_as first_groups dirty_numbers
 fed-ahead = feeds-refused (state 1 0 0 0 Idle) log₀ home frames (written 2 two) _ log₀ home frames 14 0 refl refl refl (record { state_is = refl; log_is = refl; home_is = refl; frames_are = refl })
 

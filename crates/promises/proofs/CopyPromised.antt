@@ -5,10 +5,11 @@ use Prim.Native.Nat.{ℕ}
 use mathlib.Core.List.{List}
 use native.Mathlib.Omega.{arith}
 use lib.ListN.{length}
+use Rattle.promises.specs.declared.Outcome.{Outcome}
+use Rattle.promises.specs.declared.Stop.{Stop}
+use Rattle.promises.specs.declared.Fed.{Fed}
 use Rattle.promises.specs.declared.State.{State}
 use Rattle.promises.specs.declared.Cleaning.TheVariants.{Second, Third}
-use Rattle.promises.specs.declared.FeedOutcome.{FeedOutcome}
-use Rattle.promises.specs.declared.OpenOutcome.{OpenOutcome}
 use Rattle.promises.specs.Areas.{first_half, second_half, with_first_half, with_second_half}
 use Rattle.promises.specs.Blocks.{LogBlock}
 use Rattle.promises.specs.DirtyPages.{DirtyPage}
@@ -26,7 +27,7 @@ which (first page entry) = 2
 which (second page entry) = 3
 which (takes block) = 4
 
-module _ (s : State) (log home frames bytes : List ℕ) (result : FeedOutcome) (log' home' frames' : List ℕ) where
+module _ (s : State) (log home frames bytes : List ℕ) (result : Outcome Fed Stop) (log' home' frames' : List ℕ) where
   abbrev outcome : Feeding
   outcome = feeding s log home frames bytes
 
@@ -95,7 +96,7 @@ module _ (s : State) (log home frames bytes : List ℕ) (result : FeedOutcome) (
 stands-not-stops : {X : Type 0} (n j m : ℕ) (v : Walk) → walking.stands m v ≡ walking.stops n j → X
 stands-not-stops n j m v e = let z : ◌≡◌ {A = ℕ} 0 1 = cc in absurd (omega arith)
 
-pub copy-accepts : (log home frames : List ℕ) (r : OpenOutcome) (frames' : List ℕ) (next : ℕ) (walk : Walk) → copy_finding log home (length frames) ≡ walking.stands next walk
+pub copy-accepts : (log home frames : List ℕ) (r : Outcome ℕ Stop) (frames' : List ℕ) (next : ℕ) (walk : Walk) → copy_finding log home (length frames) ≡ walking.stands next walk
     → CopyStands next walk log home frames r frames' → OpensCopy log home frames r frames'
 copy-accepts log home frames r frames' next walk e step = record {
   refused = λ n j x. stands-not-stops n j next walk (sym e ∙ x);

@@ -12,8 +12,9 @@ use lib.Dec.{ltb}
 use borrow.Author.Tests.{le-leb, eq-eqb, lt-ltb, le-ltb}
 use Rattle.area.proofs.Laws.{either}
 use Rattle.area.proofs.Parts.{length_part}
+use Rattle.std.specs.Prelude.{Result}
+use Rattle.promises.specs.declared.Refusal.{Refusal}
 use Rattle.promises.specs.declared.State.{State}
-use Rattle.promises.specs.declared.Answer.{Answer}
 use Rattle.promises.specs.Areas.{page_at}
 use Rattle.promises.specs.Blocks.{LogBlock}
 use Rattle.promises.specs.Walk.{Finding, stops, stands}
@@ -195,7 +196,7 @@ at-start z range log home frames staging l h =
     })
 
 -- ---- every run
-on-formatted : (z : Sizes) (range : Ranged z) (w : World) (b : Book) (log log' home frames staging : List ℕ) (r : Answer) → length log ≡ z.slots * 512 → length home ≡ z.pages * 1024
+on-formatted : (z : Sizes) (range : Ranged z) (w : World) (b : Book) (log log' home frames staging : List ℕ) (r : Result (Unit {0}) Refusal) → length log ≡ z.slots * 512 → length home ≡ z.pages * 1024
     → Formats log r log' → w ≡ record { state = all_zero_state; log = log'; home = home; frames = frames; staging = staging } → b ≡ blank home → Good z w b []
 on-formatted z range w b log log' home frames staging r l h f e q =
     let n : length log / 512 ≡ z.slots = omega arith in

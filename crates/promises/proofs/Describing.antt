@@ -11,9 +11,9 @@ use lib.Seq.{take-set-le, take-suc-set, take-take}
 use lib.Dec.{eqb, leb, ltb}
 use borrow.Author.Tests.{leb-true, eqb-false, lt-ltb, ne_eqb}
 use Rattle.area.proofs.Laws.{and_both, and2, either, drop-snoc, map_snoc, map-take}
+use Rattle.std.specs.Prelude.{Ok}
 use Rattle.promises.specs.declared.State.{State}
 use Rattle.promises.specs.declared.Staged.{Staged}
-use Rattle.promises.specs.declared.Answer.TheVariants.{Done}
 use Rattle.promises.specs.Areas.{with_staged}
 use Rattle.area.specs.Part.{part, splice}
 use Rattle.promises.specs.Updates.{Update}
@@ -181,7 +181,7 @@ module _ (s : State) (f : Sound s) (u : Staged) (room : total (groups_of s) + s.
 pub describe-met : (s : State) (page offset area : ℕ) (bytes staging : List ℕ) → length s.staged ≡ 32
     → describe_refusal s (length staging) page offset (length bytes) ≡ 0 → area < s.frames → member area (areas_of (staged_of s)) ≡ false
     → Describes s (record { page = page; offset = offset; bytes = bytes }) staging
-    (record { state = described_state s (record { page = page; offset = offset; length = length bytes; area = area }); answer = Done })
+    (record { state = described_state s (record { page = page; offset = offset; length = length bytes; area = area }); answer = Ok tt })
     (with_staged staging area (length bytes) bytes)
 describe-met s page offset area bytes staging l32 e below free =
     let u : Staged = record { page = page; offset = offset; length = length bytes; area = area } in

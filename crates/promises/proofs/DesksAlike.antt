@@ -11,10 +11,11 @@ use lib.Dec.{eqb, leb, ltb}
 use borrow.Author.Tests.{eqb-false, eq-eqb, le-leb}
 use Rattle.block.specs.Sizes.{sequence_end}
 use Rattle.block.specs.Legal.{legal_place}
+use Rattle.std.specs.Prelude.{Result}
+use Rattle.promises.specs.declared.Refusal.{Refusal}
 use Rattle.promises.specs.declared.State.{State}
 use Rattle.promises.specs.declared.Cleaning.{Cleaning}
 use Rattle.promises.specs.declared.Cleaning.TheVariants.{Idle, First, Second, Third}
-use Rattle.promises.specs.declared.Answer.{Answer}
 use Rattle.promises.specs.Areas.{staging_length, home_length, frames_length}
 use Rattle.promises.specs.States.{all_zero_state}
 use Rattle.promises.specs.Sums.{waiting_blocks, sequences_taken, dirty_count, last_ended}
@@ -234,7 +235,7 @@ unfit-alike w v al c c' e s t x y = by_call_lem c c' e
     (λ p. same-unfit w v al c' s t (subst (λ (k : Call). Unfit k w.state s) p x) y)
 
 -- ---- one event on both desks
-on-formatted : (z : Sizes) → Ranged z → (w v : World) (log log' home frames staging x x' home' frames' staging' : List ℕ) (a b : Answer)
+on-formatted : (z : Sizes) → Ranged z → (w v : World) (log log' home frames staging x x' home' frames' staging' : List ℕ) (a b : Result (Unit {0}) Refusal)
     → length log ≡ z.slots * 512 → length x ≡ z.slots * 512 → Formats log a log' → Formats x b x' → home ≡ home'
     → w ≡ record { state = all_zero_state; log = log'; home = home; frames = frames; staging = staging }
     → v ≡ record { state = all_zero_state; log = x'; home = home'; frames = frames'; staging = staging' } → Alike w v

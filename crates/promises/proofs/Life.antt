@@ -13,15 +13,12 @@ use mathlib.Core.List.{List, [], ◌∷◌}
 use lib.ListN.{length, get_or, set, replicate}
 use Rattle.area.proofs.Laws.{get_d-all}
 use Rattle.area.specs.Part.{part, splice}
+use Rattle.std.specs.Prelude.{Ok}
 use Rattle.promises.specs.declared.State.{State}
 use Rattle.promises.specs.declared.Dirty.{Dirty}
 use Rattle.promises.specs.declared.Cleaning.{Cleaning}
 use Rattle.promises.specs.declared.Cleaning.TheVariants.{Idle, Second, Third}
-use Rattle.promises.specs.declared.Answer.TheVariants.{Done}
-use Rattle.promises.specs.declared.Ended.TheVariants.{Ticket}
-use Rattle.promises.specs.declared.Logged.TheVariants.{Stored, Settled as LogSettled}
-use Rattle.promises.specs.declared.Opened.TheVariants.{Settled as OpenSettled}
-use Rattle.promises.specs.declared.Standing.TheVariants.{Yes}
+use Rattle.promises.specs.declared.Logged.TheVariants.{Stored, Settled}
 use Rattle.promises.specs.Areas.{page_at}
 use Rattle.promises.specs.Updates.{Update, put}
 use Rattle.promises.specs.Blocks.{Slot, clean, stored}
@@ -157,13 +154,13 @@ found-home : shown (look_up 3 (entry ∷ [])) (page_at home 3) ≡ replicate 102
 unfolding look_up part
 found-home = refl
 
-pub format-met : Formats (replicate 4096 255) Done log₀
+pub format-met : Formats (replicate 4096 255) (Ok tt) log₀
 unfolding replied
 format-met = record { answer_is = refl; refused = λ n. absurd (n refl); accepted = λ e. refl }
 
-pub open-met : Opens log₀ home frames staging (record { state = awoken; answer = OpenSettled 0 }) frames
+pub open-met : Opens log₀ home frames staging (record { state = awoken; answer = Ok 0 }) frames
 unfolding sound_as first_groups dirty_numbers dirty_from grouped
-open-met = open-accepts log₀ home frames staging (record { state = awoken; answer = OpenSettled 0 }) frames 1 (start_with 0) fresh (record {
+open-met = open-accepts log₀ home frames staging (record { state = awoken; answer = Ok 0 }) frames 1 (start_with 0) fresh (record {
   answer_is = refl;
   frames_long = refl;
   fills = none_filled;
@@ -173,11 +170,11 @@ open-met = open-accepts log₀ home frames staging (record { state = awoken; ans
   dirty_are = λ p. ap (look_up p) (none-dirty frames);
 })
 
-pub begin-met : Begins awoken 1 (record { state = opened; answer = Done })
+pub begin-met : Begins awoken 1 (record { state = opened; answer = Ok tt })
 unfolding replied begin_refusal sound_as first_groups dirty_numbers dirty_from grouped
 begin-met = record { answer_is = refl; refused = λ n. absurd (n refl); state_is = λ e. refl; leaves = λ e x. record { stays_sound = refl; contents_are = refl; dirty_are = λ y p. refl } }
 
-pub describe-met : Describes opened (record { page = 0; offset = 0; bytes = 42 ∷ [] }) staging (record { state = described; answer = Done }) staging'
+pub describe-met : Describes opened (record { page = 0; offset = 0; bytes = 42 ∷ [] }) staging (record { state = described; answer = Ok tt }) staging'
 unfolding replied describe_refusal sound_as first_groups dirty_numbers dirty_from grouped part splice
 describe-met = record {
   answer_is = refl;
@@ -192,7 +189,7 @@ describe-met = record {
   };
 }
 
-pub end-met : Ends described (record { state = closed; answer = Ticket 1 })
+pub end-met : Ends described (record { state = closed; answer = Ok 1 })
 unfolding replied end_refusal sound_as first_groups dirty_numbers dirty_from grouped part
 end-met = record { answer_is = refl; refused = λ n. absurd (n refl); state_is = λ e. refl; leaves = λ e x. record { stays_sound = refl; contents_are = refl; dirty_are = λ y p. refl } }
 
@@ -201,14 +198,14 @@ end-met = record { answer_is = refl; refused = λ n. absurd (n refl); state_is =
 abbrev log₁ : List ℕ
 log₁ = stored 8 log₀ 1 (update_block closed group (dirty_of closed frames))
 
-update-step : UpdateStep closed group log₀ frames staging' (record { state = half; answer = Stored }) log₁ frames
+update-step : UpdateStep closed group log₀ frames staging' (record { state = half; answer = Ok Stored }) log₁ frames
 unfolding sound_as first_groups dirty_numbers dirty_from grouped part
 update-step = record { answer_is = refl; log_is = refl; frames_are = refl; state_is = refl; stays_sound = refl; contents_are = refl; dirty_are = λ p. refl }
 
-pub update-met : LogSteps closed log₀ home frames staging' (record { state = half; answer = Stored }) log₁ frames
+pub update-met : LogSteps closed log₀ home frames staging' (record { state = half; answer = Ok Stored }) log₁ frames
 unfolding log_refusal sound_as first_groups dirty_numbers grouped part
 update-met =
-    log-updates closed log₀ home frames staging' (record { state = half; answer = Stored }) log₁ frames refl group [] refl (omega arith) update-step
+    log-updates closed log₀ home frames staging' (record { state = half; answer = Ok Stored }) log₁ frames refl group [] refl (omega arith) update-step
 
 abbrev log₂ : List ℕ → List ℕ
 log₂ log = stored 8 log 2 (commit_block half group (dirty_after half group home frames))
@@ -218,10 +215,10 @@ unfolding log_refusal sound_as first_groups dirty_numbers
 half-accepted n e = rw e
 
 pub commit-met : (log : List ℕ) → length log ≡ 4096
-    → LogSteps half log home frames staging' (record { state = dirty; answer = LogSettled 1 }) (log₂ log) frames'
+    → LogSteps half log home frames staging' (record { state = dirty; answer = Ok (Settled 1) }) (log₂ log) frames'
 unfolding sound_as first_groups dirty_numbers dirty_from grouped part cleaning_after shifted apply_all apply put
 commit-met log e =
-    log-commits half log home frames staging' (record { state = dirty; answer = LogSettled 1 }) (log₂ log) frames'
+    log-commits half log home frames staging' (record { state = dirty; answer = Ok (Settled 1) }) (log₂ log) frames'
     (half-accepted (length log) e) group [] refl (omega arith) (record {
       answer_is = refl;
       log_is = refl;
@@ -233,7 +230,7 @@ commit-met log e =
       dirty_are = λ p. ap (look_up p) (one-dirty ∙ sym (ap (apply_all 1 (page_at home) group) (none-dirty frames) ∙ applied));
     })
 
-pub settled-met : Settles dirty 1 Yes
+pub settled-met : Settles dirty 1 (Ok true)
 unfolding replied settled_refusal sound_as first_groups dirty_numbers
 settled-met = record { answer_is = refl }
 
@@ -249,7 +246,7 @@ abbrev at_third : State
 at_third = state 3 1 1 0 0 0 0 0 0 (Third 0)
 
 second-step : (log pages : List ℕ)
-    → CleanStep at_second log pages frames' (record { state = at_third; answer = Done }) log (splice pages 512 512 (replicate 512 0))
+    → CleanStep at_second log pages frames' (record { state = at_third; answer = Ok tt }) log (splice pages 512 512 (replicate 512 0))
 unfolding clean_store sound_as first_groups dirty_numbers dirty_from grouped part look_up
 second-step log pages = record {
   page = 0;
@@ -267,7 +264,7 @@ second-step log pages = record {
 abbrev log₃ : List ℕ → List ℕ
 log₃ log = stored 8 log 3 (record { kind = clean 0; keep_from = 3; ticket = 1 })
 
-clean_step_lem : (log pages : List ℕ) → CleanStep at_third log pages frames' (record { state = cleaned; answer = Done }) (log₃ log) pages
+clean_step_lem : (log pages : List ℕ) → CleanStep at_third log pages frames' (record { state = cleaned; answer = Ok tt }) (log₃ log) pages
 unfolding clean_store sound_as first_groups dirty_numbers dirty_from grouped part look_up without keep_from_of freed
 clean_step_lem log pages = record {
   page = 0;
@@ -288,10 +285,10 @@ unfolding clean_refusal sound_as first_groups dirty_numbers
 clean-accepted n m e f = rw (e, f) (refl, refl, refl)
 
 pub first-met : (log : List ℕ) → length log ≡ 4096
-    → CleanSteps dirty log home frames' (record { state = at_second; answer = Done }) log (splice home 0 512 (42 ∷ replicate 511 0))
+    → CleanSteps dirty log home frames' (record { state = at_second; answer = Ok tt }) log (splice home 0 512 (42 ∷ replicate 511 0))
 unfolding clean_store sound_as first_groups dirty_numbers dirty_from grouped part look_up
 first-met log e =
-    clean-accepts dirty log home frames' (record { state = at_second; answer = Done }) log (splice home 0 512 (42 ∷ replicate 511 0))
+    clean-accepts dirty log home frames' (record { state = at_second; answer = Ok tt }) log (splice home 0 512 (42 ∷ replicate 511 0))
     (clean-accepted (length log) 4096 e refl).0 refl (record {
       page = 0;
       entry = entry;
@@ -306,15 +303,15 @@ first-met log e =
     })
 
 pub second-met : (log pages : List ℕ) → length log ≡ 4096 → length pages ≡ 4096
-    → CleanSteps at_second log pages frames' (record { state = at_third; answer = Done }) log (splice pages 512 512 (replicate 512 0))
+    → CleanSteps at_second log pages frames' (record { state = at_third; answer = Ok tt }) log (splice pages 512 512 (replicate 512 0))
 second-met log pages e f =
-    clean-accepts at_second log pages frames' (record { state = at_third; answer = Done }) log (splice pages 512 512 (replicate 512 0))
+    clean-accepts at_second log pages frames' (record { state = at_third; answer = Ok tt }) log (splice pages 512 512 (replicate 512 0))
     (clean-accepted (length log) (length pages) e f).1 refl (second-step log pages)
 
 pub third-met : (log pages : List ℕ) → length log ≡ 4096 → length pages ≡ 4096
-    → CleanSteps at_third log pages frames' (record { state = cleaned; answer = Done }) (log₃ log) pages
+    → CleanSteps at_third log pages frames' (record { state = cleaned; answer = Ok tt }) (log₃ log) pages
 third-met log pages e f =
-    clean-accepts at_third log pages frames' (record { state = cleaned; answer = Done }) (log₃ log) pages
+    clean-accepts at_third log pages frames' (record { state = cleaned; answer = Ok tt }) (log₃ log) pages
     (clean-accepted (length log) (length pages) e f).2 refl (clean_step_lem log pages)
 
 -- ---- Read: the dirty page from its frame, another one from home

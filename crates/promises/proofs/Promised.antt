@@ -9,10 +9,11 @@ use lib.Dec.{ltb}
 use borrow.Author.Tests.{lt-ltb, le-ltb}
 use lib.ListN.{length}
 use Rattle.area.proofs.Laws.{by-eq}
-use Rattle.promises.specs.declared.State.{State}
 use Rattle.promises.specs.declared.Outcome.{Outcome}
-use Rattle.promises.specs.declared.LogOutcome.{LogOutcome}
-use Rattle.promises.specs.declared.OpenOutcome.{OpenOutcome}
+use Rattle.promises.specs.declared.Refusal.{Refusal}
+use Rattle.promises.specs.declared.Stop.{Stop}
+use Rattle.promises.specs.declared.Logged.{Logged}
+use Rattle.promises.specs.declared.State.{State}
 use Rattle.promises.specs.Updates.{Update}
 use Rattle.promises.specs.Walk.{Walk, stops, stands}
 use Rattle.promises.specs.Contents.{queue_of}
@@ -22,7 +23,7 @@ use Rattle.promises.specs.LogStep.{log_refusal_of, UpdateStep, CommitStep, Store
 use Rattle.promises.specs.CleanStep.{clean_refusal_of, CleanStep, CleanSteps}
 use Rattle.promises.proofs.Replies.{replied-accepted}
 
-module _ (s : State) (log home frames staging : List ℕ) (r : LogOutcome) (log' frames' : List ℕ) where
+module _ (s : State) (log home frames staging : List ℕ) (r : Outcome Logged Refusal) (log' frames' : List ℕ) where
   -- an accepted Log step, of a queue that is known
   module _ (accepted : log_refusal_of s log home frames staging ≡ 0) (g : List Update) (q : List (List Update)) (queue : queue_of s staging ≡ g ∷ q) where
     by-queue : Stores s (g ∷ q) log home frames staging r log' frames' → LogSteps s log home frames staging r log' frames'
@@ -63,7 +64,7 @@ module _ (s : State) (log home frames staging : List ℕ) (r : LogOutcome) (log'
       (λ e. stores-number (queue_of s staging) (p.accepted e) ∙ sym e)
       (λ n. ap number_in (p.refused n).0)
 
-pub clean-accepts : (s : State) (log home frames : List ℕ) (r : Outcome) (log' home' : List ℕ) → clean_refusal_of s log home frames ≡ 0 → answered r.answer ≡ done
+pub clean-accepts : (s : State) (log home frames : List ℕ) (r : Outcome (Unit {0}) Refusal) (log' home' : List ℕ) → clean_refusal_of s log home frames ≡ 0 → answered r.answer ≡ done
     → CleanStep s log home frames r log' home' → CleanSteps s log home frames r log' home'
 clean-accepts s log home frames r log' home' e a step = record {
   answer_is = a ∙ sym (replied-accepted (clean_refusal_of s log home frames) done e);
@@ -74,7 +75,7 @@ clean-accepts s log home frames r log' home' e a step = record {
 stands-not-stops : {X : Type 0} (n j m : ℕ) (v : Walk) → stands m v ≡ stops n j → X
 stands-not-stops n j m v e = let z : ◌≡◌ {A = ℕ} 0 1 = cc in absurd (omega arith)
 
-pub open-accepts : (log home frames staging : List ℕ) (r : OpenOutcome) (frames' : List ℕ) (next : ℕ) (walk : Walk)
+pub open-accepts : (log home frames staging : List ℕ) (r : Outcome ℕ Stop) (frames' : List ℕ) (next : ℕ) (walk : Walk)
     → open_finding log home (length frames) (length staging) ≡ stands next walk → OpenStands next walk log home frames r frames'
     → Opens log home frames staging r frames'
 open-accepts log home frames staging r frames' next walk e step = record {

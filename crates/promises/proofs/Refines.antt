@@ -3,7 +3,8 @@
 use mathlib.Core.Path.{◌≡◌, refl, ap}
 use mathlib.Core.List.{List, ◌++◌}
 use Prim.Native.Nat.{ℕ}
-use Rattle.promises.specs.declared.Answer.{Answer}
+use Rattle.std.specs.Prelude.{Result}
+use Rattle.promises.specs.declared.Refusal.{Refusal}
 use Rattle.promises.specs.Format.{Formats}
 use Rattle.promises.specs.Book.{Book}
 use Rattle.promises.specs.Blocks.{LogBlock}
@@ -15,7 +16,7 @@ use Rattle.promises.proofs.Demand3.{demand-three}
 
 -- every step of these is one that the promises allow
 pub record Refines (by : Steps) : Type 0 where
-  pub formats : (log : List ℕ) (answer : Answer) (log' : List ℕ) → by.formats log answer log' → Formats log answer log'
+  pub formats : (log : List ℕ) (answer : Result (Unit {0}) Refusal) (log' : List ℕ) → by.formats log answer log' → Formats log answer log'
   pub steps : (call : Call) (world : World) (reply : Reply) (world' : World) → by.steps call world reply world' → Step call world reply world'
 
 module _ (by : Steps) (r : Refines by) where

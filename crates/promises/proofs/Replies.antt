@@ -7,7 +7,24 @@ use mathlib.Core.List.{List}
 use native.Mathlib.Omega.{arith}
 use borrow.Author.Tests.{eq-eqb, ne_eqb}
 use Rattle.area.proofs.Laws.{by-eq}
-use Rattle.promises.specs.Answers.{Reply, refuses, shows, accepts, number_in, replied, read_answered}
+use Rattle.std.specs.Prelude.{Result, Ok, Err, IsErrAnd}
+use Rattle.promises.specs.declared.Refusal.{Refusal}
+use Rattle.promises.specs.declared.Refusal.TheVariants.{
+  WrongLength,
+  NotSound,
+  OutOfRange,
+  WrongMoment,
+  Full,
+  SequencesUsedUp,
+  LogDamaged,
+  LogOutOfOrder,
+  TooFewFrames,
+  NothingToDo,
+  HeldBack,
+  BadBlock,
+  SequenceAhead,
+}
+use Rattle.promises.specs.Answers.{Reply, refuses, done, shows, accepts, number_in, number_of, refusal_in, replied, answered, read_answered}
 
 pub no-accept : {X : Type 0} → ◌≡◌ {A = Bool} false true → X
 no-accept e = let n : ◌≡◌ {A = ℕ} 0 1 = cc in absurd (omega arith)
@@ -54,3 +71,35 @@ same-refusal e = cc
 
 pub read-refused-number : (m n : ℕ) (bytes : List ℕ) → read_answered m bytes ≡ refuses n → m ≡ n
 read-refused-number m n bytes e = sym (number_by (read_answered m bytes) (shows bytes) m refl refl) ∙ ap number_in e
+
+-- ---- the number of what a test answers
+
+pub refused-with : {X : Type 0} (r : Result X Refusal) (refusal : Refusal) → IsErrAnd r (λ e. e ≡ refusal) → refusal_in r ≡ number_of refusal
+refused-with (Err e) refusal h = ap number_of h
+refused-with (Ok x) refusal h = absurd h
+
+-- a refusal that is passed on
+pub passed-on : {X E : Type 0} (r : Result X E) (refusal : E) → IsErrAnd r (λ e. e ≡ refusal) → r ≡ Err refusal
+passed-on (Err e) refusal h = ap (λ (x : _). Err x) h
+passed-on (Ok x) refusal h = absurd h
+
+-- no refusal has the number 0
+pub numbered : (refusal : Refusal) → number_of refusal ≡ 0 → ⊥
+numbered WrongLength e = omega (arith, e)
+numbered NotSound e = omega (arith, e)
+numbered OutOfRange e = omega (arith, e)
+numbered WrongMoment e = omega (arith, e)
+numbered Full e = omega (arith, e)
+numbered SequencesUsedUp e = omega (arith, e)
+numbered LogDamaged e = omega (arith, e)
+numbered LogOutOfOrder e = omega (arith, e)
+numbered TooFewFrames e = omega (arith, e)
+numbered NothingToDo e = omega (arith, e)
+numbered HeldBack e = omega (arith, e)
+numbered BadBlock e = omega (arith, e)
+numbered SequenceAhead e = omega (arith, e)
+
+-- the whole answer of a call that hands its test's answer back
+pub answered-by : (r : Result (Unit {0}) Refusal) → answered r ≡ replied (refusal_in r) done
+answered-by (Ok unit) = sym (replied-accepted 0 done refl)
+answered-by (Err refusal) = sym (replied-refused (number_of refusal) done (numbered refusal))

@@ -1,6 +1,6 @@
 -- What a caller is told: the number and the values of each answer. Every promise gives the whole answer by these definitions.
 -- Assumes nothing.
-use Rattle.std.specs.Prelude.{ℕ, Bool, true, false, cond, List, eqb}
+use Rattle.std.specs.Prelude.{ℕ, Bool, true, false, cond, List, eqb, Result, Ok, Err}
 use Rattle.promises.specs.declared.Refusal.{Refusal}
 use Rattle.promises.specs.declared.Refusal.TheVariants.{
   WrongLength,
@@ -17,18 +17,11 @@ use Rattle.promises.specs.declared.Refusal.TheVariants.{
   BadBlock,
   SequenceAhead,
 }
-use Rattle.promises.specs.declared.Answer.{Answer}
-use Rattle.promises.specs.declared.Answer.TheVariants.{Refused, Done}
-use Rattle.promises.specs.declared.Ended.{Ended}
-use Rattle.promises.specs.declared.Ended.TheVariants.{Refused as EndRefused, Ticket}
+use Rattle.promises.specs.declared.Stop.{Stop}
 use Rattle.promises.specs.declared.Logged.{Logged}
-use Rattle.promises.specs.declared.Logged.TheVariants.{Refused as LogRefused, Stored, Settled as LogSettled}
-use Rattle.promises.specs.declared.Opened.{Opened}
-use Rattle.promises.specs.declared.Opened.TheVariants.{Refused as OpenRefused, Settled as OpenSettled}
+use Rattle.promises.specs.declared.Logged.TheVariants.{Stored, Settled}
 use Rattle.promises.specs.declared.Fed.{Fed}
-use Rattle.promises.specs.declared.Fed.TheVariants.{Refused as FedRefused, Had, NotYet, Taken}
-use Rattle.promises.specs.declared.Standing.{Standing}
-use Rattle.promises.specs.declared.Standing.TheVariants.{Refused as StandingRefused, Yes, No}
+use Rattle.promises.specs.declared.Fed.TheVariants.{Had, NotYet, Taken}
 
 abbrev pub number_of : Refusal → ℕ
 number_of WrongLength = 1
@@ -85,52 +78,55 @@ number_in taken = 0
 unfoldable pub replied : ℕ → Reply → Reply
 replied refusal reply = cond (eqb refusal 0) reply (refuses refusal)
 
+-- ---- what a test answers: nothing where it accepts, else the refusal
+
+abbrev pub refusal_in : {X : Type 0} → Result X Refusal → ℕ
+refusal_in (Ok answer) = 0
+refusal_in (Err refusal) = number_of refusal
+
 -- ---- each answer's reply
 
 -- Format, Begin, Describe and Clean step
-abbrev pub answered : Answer → Reply
-answered (Refused refusal) = refuses (number_of refusal)
-answered Done = done
+abbrev pub answered : Result (Unit {0}) Refusal → Reply
+answered (Err refusal) = refuses (number_of refusal)
+answered (Ok unit) = done
 
 -- End
-abbrev pub end_answered : Ended → Reply
-end_answered (EndRefused refusal) = refuses (number_of refusal)
-end_answered (Ticket ticket) = gives ticket
+abbrev pub end_answered : Result ℕ Refusal → Reply
+end_answered (Err refusal) = refuses (number_of refusal)
+end_answered (Ok ticket) = gives ticket
 
 -- Log step
-abbrev pub log_answered : Logged → Reply
-log_answered (LogRefused refusal) = refuses (number_of refusal)
-log_answered Stored = done
-log_answered (LogSettled ticket) = settles ticket
+abbrev pub log_answered : Result Logged Refusal → Reply
+log_answered (Err refusal) = refuses (number_of refusal)
+log_answered (Ok Stored) = done
+log_answered (Ok (Settled ticket)) = settles ticket
 
 -- Open and the opening of a copy, and the place of a refusal
-abbrev pub open_answered : Opened → Reply
-open_answered (OpenRefused refusal place) = refuses (number_of refusal)
-open_answered (OpenSettled ticket) = settles ticket
+abbrev pub open_answered : Result ℕ Stop → Reply
+open_answered (Err stop) = refuses (number_of stop.refusal)
+open_answered (Ok ticket) = settles ticket
 
-abbrev pub place_in : Opened → ℕ
-place_in (OpenRefused refusal place) = place
-place_in (OpenSettled ticket) = 0
+abbrev pub place_in : Result ℕ Stop → ℕ
+place_in (Err stop) = stop.place
+place_in (Ok ticket) = 0
 
 -- a copy's feed, and the place of its refusal
-abbrev pub fed_answered : Fed → Reply
-fed_answered (FedRefused refusal place) = refuses (number_of refusal)
-fed_answered Had = had
-fed_answered NotYet = not_yet
-fed_answered Taken = taken
+abbrev pub fed_answered : Result Fed Stop → Reply
+fed_answered (Err stop) = refuses (number_of stop.refusal)
+fed_answered (Ok Had) = had
+fed_answered (Ok NotYet) = not_yet
+fed_answered (Ok Taken) = taken
 
-abbrev pub fed_place_in : Fed → ℕ
-fed_place_in (FedRefused refusal place) = place
-fed_place_in Had = 0
-fed_place_in NotYet = 0
-fed_place_in Taken = 0
+abbrev pub fed_place_in : Result Fed Stop → ℕ
+fed_place_in (Err stop) = stop.place
+fed_place_in (Ok answer) = 0
 
 -- Read
 abbrev pub read_answered : ℕ → List ℕ → Reply
 read_answered refusal bytes = replied refusal (shows bytes)
 
 -- Settled
-abbrev pub standing_answered : Standing → Reply
-standing_answered (StandingRefused refusal) = refuses (number_of refusal)
-standing_answered Yes = says true
-standing_answered No = says false
+abbrev pub standing_answered : Result Bool Refusal → Reply
+standing_answered (Err refusal) = refuses (number_of refusal)
+standing_answered (Ok answer) = says answer

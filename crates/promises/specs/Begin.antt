@@ -2,8 +2,9 @@
 -- Assumes nothing.
 use Rattle.std.specs.Prelude.{ℕ, ◌+◌, ◌*◌, ◌≡◌, Bool, cond, ◌&&◌, List, [], eqb, leb}
 use Rattle.block.specs.Sizes.{sequence_end, group_most}
-use Rattle.promises.specs.declared.State.{State}
 use Rattle.promises.specs.declared.Outcome.{Outcome}
+use Rattle.promises.specs.declared.Refusal.{Refusal}
+use Rattle.promises.specs.declared.State.{State}
 use Rattle.promises.specs.Contents.{Contents, contents_of, with_open}
 use Rattle.promises.specs.States.{set_open}
 use Rattle.promises.specs.Sums.{slots_taken, frames_taken, waiting_blocks}
@@ -34,7 +35,7 @@ begun contents u = with_open contents u []
 abbrev pub begun_state : State → ℕ → State
 begun_state state u = set_open state u 0
 
-pub record Begins (state : State) (u : ℕ) (result : Outcome) : Type 0 where
+pub record Begins (state : State) (u : ℕ) (result : Outcome (Unit {0}) Refusal) : Type 0 where
   pub answer_is : answered result.answer ≡ replied (begin_refusal state u) done
   pub refused : (begin_refusal state u ≡ 0 → ⊥) → result.state ≡ state
   pub state_is : begin_refusal state u ≡ 0 → result.state ≡ begun_state state u

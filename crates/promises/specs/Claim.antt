@@ -1,7 +1,8 @@
 -- THE CRASH THEOREM: every list of calls and cuts from Format's end on, beside its book. In words: docs/GUARANTEE.md.
 -- Assumes nothing.
 use Rattle.std.specs.Prelude.{◌≡◌, ◌⊎◌, ℕ, ◌+◌, ◌<◌, Bool, true, false, cond, List, [], ◌∷◌, ◌++◌, length, leb, ltb}
-use Rattle.promises.specs.declared.Answer.{Answer}
+use Rattle.std.specs.Prelude.{Result}
+use Rattle.promises.specs.declared.Refusal.{Refusal}
 use Rattle.promises.specs.Areas.{page_at, log_length, home_length, slots_in_range, pages_in_range, frames_in_range}
 use Rattle.promises.specs.Updates.{Update, redo, of_page}
 use Rattle.promises.specs.States.{all_zero_state}
@@ -63,7 +64,7 @@ both false b = false
 
 -- ---- how Format and the calls step: by their promises, or by what a caller learns of the code
 pub record Steps : Type 1 where
-  pub formats : List ℕ → Answer → List ℕ → Type 0
+  pub formats : List ℕ → Result (Unit {0}) Refusal → List ℕ → Type 0
   pub steps : Call → World → Reply → World → Type 0
 
 -- by their promises
@@ -73,7 +74,7 @@ promised = record { formats = Formats; steps = Step }
 -- ---- the lists of events, each with the world and the book that it leads to
 pub data Run (by : Steps) (sizes : Sizes) : World → Book → Type 0 where
   -- Format's end: home as found, the all-zero state, any bytes in frames and staging
-  formatted : {world : World} {book : Book} (log log' home frames staging : List ℕ) (answer : Answer)
+  formatted : {world : World} {book : Book} (log log' home frames staging : List ℕ) (answer : Result (Unit {0}) Refusal)
       → length log ≡ log_length sizes.slots → length home ≡ home_length sizes.pages → by.formats log answer log'
       → world ≡ record { state = all_zero_state; log = log'; home = home; frames = frames; staging = staging } → book ≡ blank home
       → Run by sizes world book

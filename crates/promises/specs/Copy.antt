@@ -3,8 +3,9 @@
 use Rattle.std.specs.Prelude.{ℕ, ◌+◌, ◌<◌, ◌≡◌, ◌⊎◌, Bool, true, cond, List, [], ◌∷◌, ◌++◌, length, get_or, eqb, leb}
 use Rattle.block.specs.Sizes.{block_size}
 use Rattle.block.specs.Legal.{slot_of}
-use Rattle.promises.specs.declared.FeedOutcome.{FeedOutcome}
-use Rattle.promises.specs.declared.OpenOutcome.{OpenOutcome}
+use Rattle.promises.specs.declared.Outcome.{Outcome}
+use Rattle.promises.specs.declared.Stop.{Stop}
+use Rattle.promises.specs.declared.Fed.{Fed}
 use Rattle.promises.specs.Areas.{frames_length, slot_bytes}
 use Rattle.promises.specs.Updates.{Update, redo, of_page}
 use Rattle.promises.specs.Blocks.{Kind, update, commit, clean, LogBlock, no_block, valid, slots_of}
@@ -53,14 +54,14 @@ pub data CopyCall : Type 0 where
   asks : ℕ → CopyCall
 
 pub record CopyOpening (world : World) (frames : List ℕ) (reply : Reply) (world' : World) : Type 0 where
-  pub result : OpenOutcome
+  pub result : Outcome ℕ Stop
   pub frames' : List ℕ
   pub promise : OpensCopy world.log world.home frames result frames'
   pub reply_is : reply ≡ open_answered result.answer
   pub after : world' ≡ record { state = result.state; log = world.log; home = world.home; frames = frames'; staging = [] }
 
 pub record CopyFeeding (world : World) (bytes : List ℕ) (reply : Reply) (world' : World) : Type 0 where
-  pub result : FeedOutcome
+  pub result : Outcome Fed Stop
   pub log' : List ℕ
   pub home' : List ℕ
   pub frames' : List ℕ

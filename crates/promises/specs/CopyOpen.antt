@@ -3,9 +3,10 @@
 -- Assumes nothing.
 use Rattle.std.specs.Prelude.{ℕ, ◌-◌, ◌≡◌, Bool, true, cond, ◌&&◌, List, length}
 use Rattle.block.specs.Sizes.{page_size}
+use Rattle.promises.specs.declared.Outcome.{Outcome}
+use Rattle.promises.specs.declared.Stop.{Stop}
 use Rattle.promises.specs.declared.State.{State}
 use Rattle.promises.specs.declared.Dirty.{Dirty}
-use Rattle.promises.specs.declared.OpenOutcome.{OpenOutcome}
 use Rattle.promises.specs.Areas.{log_fits, home_fits, whole, frames_in_range, slots_in, pages_in, frames_in}
 use Rattle.promises.specs.DirtyPages.{look_up}
 use Rattle.promises.specs.Walk.{Walk, Finding, stops, stands, finding}
@@ -39,7 +40,7 @@ copy_opened pages slots frames next walk dirty =
 
 -- left to the program: the frame that a dirty page gets, and the bytes of the frames that hold none. The state tells the frames; by its
 -- soundness they are below F and no two pages share one
-pub record CopyStands (next : ℕ) (walk : Walk) (log home frames : List ℕ) (result : OpenOutcome) (frames' : List ℕ) : Type 0 where
+pub record CopyStands (next : ℕ) (walk : Walk) (log home frames : List ℕ) (result : Outcome ℕ Stop) (frames' : List ℕ) : Type 0 where
   pub answer_is : open_answered result.answer ≡ settles walk.ticket
   pub frames_long : length frames' ≡ length frames
   pub fills : Fills all_zero_state.dirty result.state.dirty
@@ -48,7 +49,7 @@ pub record CopyStands (next : ℕ) (walk : Walk) (log home frames : List ℕ) (r
   pub stays_sound : copy_sound result.state ≡ true
   pub dirty_are : (page : ℕ) → look_up page (dirty_of result.state frames') ≡ look_up page walk.dirty_pages
 
-pub record OpensCopy (log home frames : List ℕ) (result : OpenOutcome) (frames' : List ℕ) : Type 0 where
+pub record OpensCopy (log home frames : List ℕ) (result : Outcome ℕ Stop) (frames' : List ℕ) : Type 0 where
   pub refused : (refusal place : ℕ) → copy_finding log home (length frames) ≡ stops refusal place
       → OpenStops refusal place frames result frames'
   pub accepted : (next : ℕ) (walk : Walk) → copy_finding log home (length frames) ≡ stands next walk

@@ -2,9 +2,10 @@
 -- Assumes nothing.
 use Rattle.std.specs.Prelude.{ℕ, ◌+◌, ◌<◌, ◌≡◌, false, cond, List, [], ◌∷◌, ◌++◌, length, set, eqb, ltb}
 use Rattle.block.specs.Legal.{legal_place}
+use Rattle.promises.specs.declared.Outcome.{Outcome}
+use Rattle.promises.specs.declared.Refusal.{Refusal}
 use Rattle.promises.specs.declared.State.{State}
 use Rattle.promises.specs.declared.Staged.{Staged}
-use Rattle.promises.specs.declared.Outcome.{Outcome}
 use Rattle.promises.specs.Areas.{staging_length, with_staged}
 use Rattle.promises.specs.Updates.{Update}
 use Rattle.promises.specs.Contents.{Contents, contents_of, with_open}
@@ -37,7 +38,7 @@ staged_in update area = record { page = update.page; offset = update.offset; len
 
 -- left to the program: the staging area that the update gets, below F and held by no waiting update. Its first bytes become the new
 -- bytes; no other byte of staging changes
-pub record DescribeStep (state : State) (update : Update) (staging : List ℕ) (result : Outcome) (staging' : List ℕ) : Type 0 where
+pub record DescribeStep (state : State) (update : Update) (staging : List ℕ) (result : Outcome (Unit {0}) Refusal) (staging' : List ℕ) : Type 0 where
   pub area : ℕ
   pub area_below : area < state.frames
   pub area_free : member area (areas_of (staged_of state)) ≡ false
@@ -45,7 +46,7 @@ pub record DescribeStep (state : State) (update : Update) (staging : List ℕ) (
   pub state_is : result.state ≡ described_state state (staged_in update area)
   pub leaves : Leaves state result.state staging' (described (contents_of state staging) update)
 
-pub record Describes (state : State) (update : Update) (staging : List ℕ) (result : Outcome) (staging' : List ℕ) : Type 0 where
+pub record Describes (state : State) (update : Update) (staging : List ℕ) (result : Outcome (Unit {0}) Refusal) (staging' : List ℕ) : Type 0 where
   pub answer_is : answered result.answer ≡ replied (describe_refusal state (length staging) update.page update.offset (length update.bytes)) done
   pub refused : (describe_refusal state (length staging) update.page update.offset (length update.bytes) ≡ 0 → ⊥)
       → (result.state ≡ state) × (staging' ≡ staging)

@@ -2,12 +2,12 @@
 -- Assumes nothing.
 use Rattle.std.specs.Borrow.{Bor}
 use Rattle.std.specs.Prelude.{◌≡◌, ℕ, Bool, cond, List, length}
-use Rattle.promises.specs.declared.State.{State}
-use Rattle.promises.specs.declared.Standing.{Standing}
+use Rattle.std.specs.Prelude.{Result}
 use Rattle.promises.specs.declared.Outcome.{Outcome}
-use Rattle.promises.specs.declared.EndOutcome.{EndOutcome}
-use Rattle.promises.specs.declared.LogOutcome.{LogOutcome}
-use Rattle.promises.specs.declared.OpenOutcome.{OpenOutcome}
+use Rattle.promises.specs.declared.Refusal.{Refusal}
+use Rattle.promises.specs.declared.Stop.{Stop}
+use Rattle.promises.specs.declared.Logged.{Logged}
+use Rattle.promises.specs.declared.State.{State}
 use Rattle.promises.specs.Areas.{frames_length, staging_length}
 use Rattle.promises.specs.Updates.{Update}
 use Rattle.promises.specs.States.{all_zero_state}
@@ -56,33 +56,33 @@ pub data Call : Type 0 where
 -- ---- each call's step is its promise
 
 pub record Opening (world : World) (frames staging : List ℕ) (reply : Reply) (world' : World) : Type 0 where
-  pub result : OpenOutcome
+  pub result : Outcome ℕ Stop
   pub frames' : List ℕ
   pub promise : Opens world.log world.home frames staging result frames'
   pub reply_is : reply ≡ open_answered result.answer
   pub after : world' ≡ with_state (with_areas world world.log world.home frames' staging) result.state
 
 pub record Beginning (world : World) (u : ℕ) (reply : Reply) (world' : World) : Type 0 where
-  pub result : Outcome
+  pub result : Outcome (Unit {0}) Refusal
   pub promise : Begins world.state u result
   pub reply_is : reply ≡ answered result.answer
   pub after : world' ≡ with_state world result.state
 
 pub record Describing (world : World) (update : Update) (reply : Reply) (world' : World) : Type 0 where
-  pub result : Outcome
+  pub result : Outcome (Unit {0}) Refusal
   pub staging' : List ℕ
   pub promise : Describes world.state update world.staging result staging'
   pub reply_is : reply ≡ answered result.answer
   pub after : world' ≡ with_state (with_areas world world.log world.home world.frames staging') result.state
 
 pub record Ending (world : World) (reply : Reply) (world' : World) : Type 0 where
-  pub result : EndOutcome
+  pub result : Outcome ℕ Refusal
   pub promise : Ends world.state result
   pub reply_is : reply ≡ end_answered result.answer
   pub after : world' ≡ with_state world result.state
 
 pub record Logging (world : World) (reply : Reply) (world' : World) : Type 0 where
-  pub result : LogOutcome
+  pub result : Outcome Logged Refusal
   pub log' : List ℕ
   pub frames' : List ℕ
   pub promise : LogSteps world.state world.log world.home world.frames world.staging result log' frames'
@@ -90,7 +90,7 @@ pub record Logging (world : World) (reply : Reply) (world' : World) : Type 0 whe
   pub after : world' ≡ with_state (with_areas world log' world.home frames' world.staging) result.state
 
 pub record Cleaning (world : World) (reply : Reply) (world' : World) : Type 0 where
-  pub result : Outcome
+  pub result : Outcome (Unit {0}) Refusal
   pub log' : List ℕ
   pub home' : List ℕ
   pub promise : CleanSteps world.state world.log world.home world.frames result log' home'
@@ -109,7 +109,7 @@ pub record Reading (world : World) (page : ℕ) (reply : Reply) (world' : World)
   pub after : world' ≡ world
 
 pub record Settling (world : World) (ticket : ℕ) (reply : Reply) (world' : World) : Type 0 where
-  pub result : Standing
+  pub result : Result Bool Refusal
   pub promise : Settles world.state ticket result
   pub reply_is : reply ≡ standing_answered result
   pub after : world' ≡ world

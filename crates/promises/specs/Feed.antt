@@ -5,11 +5,13 @@ use Rattle.std.specs.Prelude.{ℕ, zero, suc, ◌+◌, ◌-◌, ◌≡◌, Bool,
 use Rattle.block.specs.Sizes.{block_size}
 use Rattle.block.specs.Legal.{slot_of}
 use Rattle.block.specs.Slot.{judged, block_at}
+use Rattle.promises.specs.declared.Outcome.{Outcome}
+use Rattle.promises.specs.declared.Stop.{Stop}
+use Rattle.promises.specs.declared.Fed.{Fed}
 use Rattle.promises.specs.declared.State.{State}
 use Rattle.promises.specs.declared.Dirty.{Dirty}
 use Rattle.promises.specs.declared.Cleaning.{Cleaning}
 use Rattle.promises.specs.declared.Cleaning.TheVariants.{Idle, First, Second, Third}
-use Rattle.promises.specs.declared.FeedOutcome.{FeedOutcome}
 use Rattle.promises.specs.Areas.{page_at, first_half, second_half, with_first_half, with_second_half, with_slot}
 use Rattle.promises.specs.Updates.{Update}
 use Rattle.promises.specs.Blocks.{Kind, update, commit, clean, LogBlock, Slot, unused, damaged, valid, slot_in, slots_of}
@@ -171,7 +173,7 @@ FramesAfter (commit updates) dirty frames dirty' frames' = Fills dirty dirty' ×
 FramesAfter (clean page) dirty frames dirty' frames' = (dirty' ≡ freed page dirty) × (frames' ≡ frames)
 
 -- a block of this kind is taken: its bytes are in its slot, and the copy stands where the walk is
-pub record Takes (state : State) (log home frames bytes : List ℕ) (kind : Kind) (walk : Walk) (result : FeedOutcome) (log' home' frames' : List ℕ)
+pub record Takes (state : State) (log home frames bytes : List ℕ) (kind : Kind) (walk : Walk) (result : Outcome Fed Stop) (log' home' frames' : List ℕ)
     : Type 0 where
   pub answer_is : fed_answered result.answer ≡ taken_reply
   pub log_is : log' ≡ with_slot log (slot_of state.slots state.next) bytes
@@ -182,7 +184,7 @@ pub record Takes (state : State) (log home frames bytes : List ℕ) (kind : Kind
   pub dirty_are : (page : ℕ) → look_up page (dirty_of result.state frames') ≡ look_up page walk.dirty_pages
 
 -- half a page is stored, and home is this: log and frames stay, and of the state all but the cleaning
-pub record Halves (state : State) (log frames : List ℕ) (cleaning : Cleaning) (stored : List ℕ) (result : FeedOutcome) (log' home' frames' : List ℕ)
+pub record Halves (state : State) (log frames : List ℕ) (cleaning : Cleaning) (stored : List ℕ) (result : Outcome Fed Stop) (log' home' frames' : List ℕ)
     : Type 0 where
   pub answer_is : fed_answered result.answer ≡ not_yet
   pub log_is : log' ≡ log
@@ -192,13 +194,13 @@ pub record Halves (state : State) (log frames : List ℕ) (cleaning : Cleaning) 
   pub stays_sound : copy_sound result.state ≡ true
 
 -- nothing changes
-pub record Same (state : State) (log home frames : List ℕ) (result : FeedOutcome) (log' home' frames' : List ℕ) : Type 0 where
+pub record Same (state : State) (log home frames : List ℕ) (result : Outcome Fed Stop) (log' home' frames' : List ℕ) : Type 0 where
   pub state_is : result.state ≡ state
   pub log_is : log' ≡ log
   pub home_is : home' ≡ home
   pub frames_are : frames' ≡ frames
 
-pub record Feeds (state : State) (log home frames bytes : List ℕ) (result : FeedOutcome) (log' home' frames' : List ℕ) : Type 0 where
+pub record Feeds (state : State) (log home frames bytes : List ℕ) (result : Outcome Fed Stop) (log' home' frames' : List ℕ) : Type 0 where
   pub refused : (refusal place : ℕ) → feeding state log home frames bytes ≡ stops refusal place
       → (fed_answered result.answer ≡ refuses refusal) × (fed_place_in result.answer ≡ place) × Same state log home frames result log' home' frames'
   pub already_had : feeding state log home frames bytes ≡ had

@@ -1,11 +1,13 @@
 -- What Log step promises. Log step (log, home, frames, staging): 2; 1; 10. It is lent home and staging to read only.
 -- Assumes nothing.
 use Rattle.std.specs.Prelude.{ℕ, ◌+◌, ◌-◌, ◌≡◌, Bool, true, false, cond, ◌&&◌, List, [], ◌∷◌, ◌++◌, length, get_or, drop, eqb, ltb}
+use Rattle.promises.specs.declared.Outcome.{Outcome}
+use Rattle.promises.specs.declared.Refusal.{Refusal}
+use Rattle.promises.specs.declared.Logged.{Logged}
 use Rattle.promises.specs.declared.State.{State}
 use Rattle.promises.specs.declared.Cleaning.{Cleaning}
 use Rattle.promises.specs.declared.Cleaning.TheVariants.{Idle, First, Second, Third}
 use Rattle.promises.specs.declared.Dirty.{Dirty}
-use Rattle.promises.specs.declared.LogOutcome.{LogOutcome}
 use Rattle.promises.specs.Areas.{page_at, log_length, home_length, frames_length, staging_length}
 use Rattle.promises.specs.Updates.{Update, of_page}
 use Rattle.promises.specs.Blocks.{LogBlock, update, commit, stored}
@@ -84,7 +86,7 @@ commit_stored_state state group dirty =
 abbrev pub dirty_after : State → List Update → List ℕ → List ℕ → List DirtyPage
 dirty_after state group home frames = apply_all (group_start state) (page_at home) group (dirty_of state frames)
 
-pub record UpdateStep (state : State) (group : List Update) (log frames staging : List ℕ) (result : LogOutcome) (log' frames' : List ℕ) : Type 0 where
+pub record UpdateStep (state : State) (group : List Update) (log frames staging : List ℕ) (result : Outcome Logged Refusal) (log' frames' : List ℕ) : Type 0 where
   pub answer_is : log_answered result.answer ≡ done
   pub log_is : log' ≡ stored state.slots log state.next (update_block state group (dirty_of state frames))
   pub frames_are : frames' ≡ frames
@@ -95,7 +97,7 @@ pub record UpdateStep (state : State) (group : List Update) (log frames staging 
 
 -- left to the program: the frame that a page gets which was not dirty, and the bytes of the frames that hold none. The state tells the
 -- frames; by its soundness they are below F and no two pages share one
-pub record CommitStep (state : State) (group : List Update) (rest : List (List Update)) (log home frames staging : List ℕ) (result : LogOutcome)
+pub record CommitStep (state : State) (group : List Update) (rest : List (List Update)) (log home frames staging : List ℕ) (result : Outcome Logged Refusal)
     (log' frames' : List ℕ) : Type 0 where
   pub answer_is : log_answered result.answer ≡ settles (state.ticket + 1)
   pub log_is : log' ≡ stored state.slots log state.next (commit_block state group (dirty_after state group home frames))
@@ -107,12 +109,12 @@ pub record CommitStep (state : State) (group : List Update) (rest : List (List U
   pub dirty_are : (page : ℕ) → look_up page (dirty_of result.state frames') ≡ look_up page (dirty_after state group home frames)
 
 -- the oldest group's next update is stored, or else its commit
-abbrev pub StoresOf : Bool → State → List Update → List (List Update) → List ℕ → List ℕ → List ℕ → List ℕ → LogOutcome → List ℕ → List ℕ → Type 0
+abbrev pub StoresOf : Bool → State → List Update → List (List Update) → List ℕ → List ℕ → List ℕ → List ℕ → Outcome Logged Refusal → List ℕ → List ℕ → Type 0
 StoresOf true state group rest log home frames staging result log' frames' = UpdateStep state group log frames staging result log' frames'
 StoresOf false state group rest log home frames staging result log' frames' = CommitStep state group rest log home frames staging result log' frames'
 
 -- by the queue: nothing is stored of an empty one
-abbrev pub Stores : State → List (List Update) → List ℕ → List ℕ → List ℕ → List ℕ → LogOutcome → List ℕ → List ℕ → Type 0
+abbrev pub Stores : State → List (List Update) → List ℕ → List ℕ → List ℕ → List ℕ → Outcome Logged Refusal → List ℕ → List ℕ → Type 0
 Stores state [] log home frames staging result log' frames' = ⊥
 Stores state (group ∷ rest) log home frames staging result log' frames' =
     StoresOf (ltb state.stored (length group)) state group rest log home frames staging result log' frames'
@@ -120,7 +122,7 @@ Stores state (group ∷ rest) log home frames staging result log' frames' =
 abbrev pub log_refusal_of : State → List ℕ → List ℕ → List ℕ → List ℕ → ℕ
 log_refusal_of state log home frames staging = log_refusal state (length log) (length home) (length frames) (length staging)
 
-pub record LogSteps (state : State) (log home frames staging : List ℕ) (result : LogOutcome) (log' frames' : List ℕ) : Type 0 where
+pub record LogSteps (state : State) (log home frames staging : List ℕ) (result : Outcome Logged Refusal) (log' frames' : List ℕ) : Type 0 where
   pub refused : (log_refusal_of state log home frames staging ≡ 0 → ⊥)
       → (log_answered result.answer ≡ refuses (log_refusal_of state log home frames staging))
       × (result.state ≡ state) × (log' ≡ log) × (frames' ≡ frames)

@@ -2,10 +2,11 @@
 -- It is lent log, home and staging to read only.
 -- Assumes nothing.
 use Rattle.std.specs.Prelude.{ℕ, ◌≡◌, Bool, true, false, cond, ◌&&◌, List, [], length, replicate, eqb}
+use Rattle.promises.specs.declared.Outcome.{Outcome}
+use Rattle.promises.specs.declared.Stop.{Stop}
 use Rattle.promises.specs.declared.State.{State}
 use Rattle.promises.specs.declared.Cleaning.TheVariants.{Idle}
 use Rattle.promises.specs.declared.Dirty.{Dirty}
-use Rattle.promises.specs.declared.OpenOutcome.{OpenOutcome}
 use Rattle.promises.specs.Areas.{log_fits, home_fits, frames_fit, slots_in, pages_in, frames_in}
 use Rattle.promises.specs.DirtyPages.{look_up}
 use Rattle.promises.specs.Walk.{Walk, Finding, stops, stands, finding}
@@ -47,7 +48,7 @@ opened pages slots frames next ticket = record {
 abbrev pub opened_state : ℕ → ℕ → ℕ → ℕ → ℕ → List Dirty → State
 opened_state pages slots frames next ticket dirty = set_dirty (set_block (empty_state false pages slots frames) next ticket) dirty
 
-pub record OpenStops (refusal place : ℕ) (frames : List ℕ) (result : OpenOutcome) (frames' : List ℕ) : Type 0 where
+pub record OpenStops (refusal place : ℕ) (frames : List ℕ) (result : Outcome ℕ Stop) (frames' : List ℕ) : Type 0 where
   pub answer_is : open_answered result.answer ≡ refuses refusal
   pub place_is : place_in result.answer ≡ place
   pub state_is : result.state ≡ all_zero_state
@@ -55,7 +56,7 @@ pub record OpenStops (refusal place : ℕ) (frames : List ℕ) (result : OpenOut
 
 -- left to the program: the frame that a dirty page gets, and the bytes of the frames that hold none. The state tells the frames; by its
 -- soundness they are below F and no two pages share one
-pub record OpenStands (next : ℕ) (walk : Walk) (log home frames : List ℕ) (result : OpenOutcome) (frames' : List ℕ) : Type 0 where
+pub record OpenStands (next : ℕ) (walk : Walk) (log home frames : List ℕ) (result : Outcome ℕ Stop) (frames' : List ℕ) : Type 0 where
   pub answer_is : open_answered result.answer ≡ settles walk.ticket
   pub frames_long : length frames' ≡ length frames
   pub fills : Fills all_zero_state.dirty result.state.dirty
@@ -66,7 +67,7 @@ pub record OpenStands (next : ℕ) (walk : Walk) (log home frames : List ℕ) (r
       → contents_of result.state staging ≡ opened (pages_in (length home)) (slots_in (length log)) (frames_in (length frames)) next walk.ticket
   pub dirty_are : (page : ℕ) → look_up page (dirty_of result.state frames') ≡ look_up page walk.dirty_pages
 
-pub record Opens (log home frames staging : List ℕ) (result : OpenOutcome) (frames' : List ℕ) : Type 0 where
+pub record Opens (log home frames staging : List ℕ) (result : Outcome ℕ Stop) (frames' : List ℕ) : Type 0 where
   pub refused : (refusal place : ℕ) → open_finding log home (length frames) (length staging) ≡ stops refusal place
       → OpenStops refusal place frames result frames'
   pub accepted : (next : ℕ) (walk : Walk) → open_finding log home (length frames) (length staging) ≡ stands next walk

@@ -4,7 +4,7 @@
 #![tactic(auto)]
 
 ghost use Rattle.std.specs.Prelude.{◌≡◌, ◌≤◌};
-ghost use Rattle.promises.specs.Answers.{number_of, done, replied, answered};
+ghost use Rattle.promises.specs.Answers.{number_of};
 ghost use Rattle.promises.specs.States.{all_zero_state, set_cleaning};
 ghost use Rattle.promises.specs.Open.{opened_state};
 
@@ -106,34 +106,16 @@ impl State {
         State::idle(0, 0, 0, 0, 0, none)
     }
 
-    // The state with another cleaning. An enum in a field can't be stored to, so the state is made anew, here alone.
+    // The state with another cleaning.
     pub fn with_cleaning(self, cleaning: Cleaning) -> State
         ensures { result ≡ set_cleaning self cleaning }
     {
-        let dirty = self.dirty;
-        let staged = self.staged;
-        let groups = self.groups;
-        State {
-            pages: self.pages,
-            slots: self.slots,
-            frames: self.frames,
-            next: self.next,
-            ticket: self.ticket,
-            dirty,
-            staged,
-            groups,
-            queued: self.queued,
-            stored: self.stored,
-            reserved: self.reserved,
-            described: self.described,
-            cleaning,
-            copy: self.copy,
-        }
+        State { cleaning, ..self }
     }
 }
 
 // Why a call is refused, in the order of the refusals' numbers, 1 to 11, 13 and 14. docs/CALLS.md says what to do at each.
-#[derive(Clone, Copy)]
+#[derive(Clone, Copy, PartialEq, Eq)]
 pub enum Refusal {
     WrongLength,
     NotSound,
@@ -172,7 +154,7 @@ impl Refusal {
         }
     }
 
-    // The refusal with a number, 1 to 11.
+    // The refusal with a number, 1 to 11, for a caller that holds the number.
     pub fn of_number(number: u64) -> Refusal
         requires { (1 ≤ number) × (number ≤ 11) }
         ensures { number_of result ≡ number }
@@ -193,98 +175,39 @@ impl Refusal {
     }
 }
 
-// What Format, Begin, Describe and Clean step answer.
-#[derive(Clone, Copy)]
-pub enum Answer {
-    Refused(Refusal),
-    Done,
+// A refusal of a log, and its place there.
+#[derive(Clone, Copy, PartialEq, Eq)]
+pub struct Stop {
+    pub refusal: Refusal,
+    pub place: u64,
 }
 
-impl Answer {
-    // The answer of a decision: the refusal with its number; 0: the call is done.
-    pub fn of_number(number: u64) -> Answer
-        requires { number ≤ 11 }
-        ensures { answered result ≡ replied number done }
-    {
-        if number == 0 {
-            return Answer::Done;
-        }
-        let refusal = Refusal::of_number(number);
-        Answer::Refused(refusal)
-    }
-}
-
-// What End answers: the transaction's ticket.
-#[derive(Clone, Copy)]
-pub enum Ended {
-    Refused(Refusal),
-    Ticket(u64),
-}
-
-// What Log step answers: an update was stored; or the commit was, and its ticket is settled.
-#[derive(Clone, Copy)]
+// What an accepted Log step answers: an update was stored; or the commit was, and its ticket is settled.
+#[derive(Clone, Copy, PartialEq, Eq)]
 pub enum Logged {
-    Refused(Refusal),
     Stored,
     Settled(u64),
 }
 
-// What Open answers: the refusal with the place in the log, or the last committed ticket, which is settled.
-#[derive(Clone, Copy)]
-pub enum Opened {
-    Refused(Refusal, u64),
-    Settled(u64),
-}
-
-// What Settled answers.
-#[derive(Clone, Copy)]
-pub enum Standing {
-    Refused(Refusal),
-    Yes,
-    No,
-}
-
-// What a copy's feed answers: the refusal with the place in the log; the copy had the block already; half a page was stored, and the block
-// is to be fed again; or the block is in the copy's log.
-#[derive(Clone, Copy)]
+// What a copy's feed answers where it is not refused: the copy had the block already; half a page was stored, and the block is to be fed again;
+// or the block is in the copy's log.
+#[derive(Clone, Copy, PartialEq, Eq)]
 pub enum Fed {
-    Refused(Refusal, u64),
     Had,
     NotYet,
     Taken,
 }
 
-// What Begin, Describe and Clean step hand back.
+// What a call hands back: the state, and what it answers, or why it is refused.
 #[derive(Clone, Copy)]
-pub struct Outcome {
+pub struct Outcome<T, E> {
     pub state: State,
-    pub answer: Answer,
+    pub answer: Result<T, E>,
 }
 
-// What End hands back.
+// What Read hands back: the committed bytes of a page, a part of home or of frames, and whether it is refused. Refused, the part is empty.
 #[derive(Clone, Copy)]
-pub struct EndOutcome {
-    pub state: State,
-    pub answer: Ended,
-}
-
-// What Log step hands back.
-#[derive(Clone, Copy)]
-pub struct LogOutcome {
-    pub state: State,
-    pub answer: Logged,
-}
-
-// What Open and the opening of a copy hand back.
-#[derive(Clone, Copy)]
-pub struct OpenOutcome {
-    pub state: State,
-    pub answer: Opened,
-}
-
-// What a copy's feed hands back.
-#[derive(Clone, Copy)]
-pub struct FeedOutcome {
-    pub state: State,
-    pub answer: Fed,
+pub struct Page<'a> {
+    pub bytes: &'a [u8],
+    pub answer: Result<(), Refusal>,
 }

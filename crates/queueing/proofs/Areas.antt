@@ -1,15 +1,17 @@
 -- Fewer waiting updates than areas leave an area free: counted from an area on, a held one lowers the count.
 -- Assumes nothing.
-use mathlib.Core.Path.{◌≡◌, refl}
+use mathlib.Core.Path.{◌≡◌, refl, ap}
 use mathlib.Core.Bool.{Bool, true, false, cond, ◌||◌}
 use mathlib.Core.List.{List, [], ◌∷◌}
-use Prim.Native.Nat.{ℕ, ◌+◌, ◌≤◌, ◌<◌}
+use Prim.Native.Nat.{ℕ, suc, ◌+◌, ◌≤◌, ◌<◌}
 use native.Mathlib.Omega.{arith}
 use lib.Dec.{eqb, leb}
 use lib.ListN.{length}
 use borrow.Author.Tests.{eqb-true, leb-true, le-leb, lt-leb}
 use Rattle.area.proofs.Laws.{by_cases}
-use Rattle.promises.specs.Sound.{member}
+use Rattle.std.specs.List.{list_any}
+use Rattle.promises.specs.declared.Staged.{Staged}
+use Rattle.promises.specs.Sound.{member, areas_of}
 
 -- how many areas of a list are from a number on
 abbrev pub above : ℕ → List ℕ → ℕ
@@ -48,3 +50,12 @@ above-held area (x ∷ xs) e = go (eqb area x) refl e (above-held area xs)
         let k = above-less area xs in
         rw (le-leb area x lo, lt-leb (area + 1) x hi) (omega arith)
     go false q e ih = let h = ih e in let k = less area x in omega arith
+
+-- an area is held where a search of the updates finds it
+pub any-held : (area : ℕ) (waiting : List Staged) → list_any (λ update. eqb area update.area) waiting ≡ member area (areas_of waiting)
+any-held area [] = refl
+any-held area (x ∷ xs) = ap (λ (b : Bool). eqb area x.area || b) (any-held area xs)
+
+pub areas-length : (waiting : List Staged) → length (areas_of waiting) ≡ length waiting
+areas-length [] = refl
+areas-length (x ∷ xs) = ap suc (areas-length xs)

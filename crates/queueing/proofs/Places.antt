@@ -16,19 +16,24 @@ use borrow.Author.Tests.{lt-ltb, le-ltb}
 use Rattle.promises.specs.declared.Dirty.{Dirty}
 use Rattle.promises.specs.declared.Staged.{Staged}
 use Rattle.promises.specs.Sums.{first_groups}
+use Rattle.promises.specs.declared.Refusal.{Refusal}
 use Rattle.promises.specs.declared.State.{State}
-use Rattle.promises.specs.declared.Answer.{Answer}
-use Rattle.promises.specs.declared.Answer.TheVariants.{Done}
+use Rattle.std.specs.Prelude.{Result, Ok}
 use Rattle.promises.specs.Areas.{with_staged}
 use Rattle.promises.specs.Contents.{total, groups_of}
-use Rattle.promises.specs.Sound.{member, areas_of, staged_of}
+use Rattle.promises.specs.Sound.{readable, member, areas_of, staged_of}
 use Rattle.promises.specs.Describe.{describe_refusal, described_state, DescribeStep}
 use Rattle.promises.specs.Read.{Held, at_home, in_frame, held_in, start_of, read_refusal_of, Reads}
+use Rattle.promises.proofs.Soundness.{sound-as-of}
 use Rattle.promises.proofs.Changes.{bytes_at, held-shows}
 use Rattle.promises.proofs.Describing.{describe-met}
 use Rattle.promises.specs.States.{free, set_staged, set_open}
 use Rattle.soundness.proofs.Scans.{from_cons}
 use Rattle.queueing.specs.Queueing.{update_of, held_at}
+
+-- a readable state has at most 32 frames
+pub frames_most : (s : State) → readable s ≡ true → s.frames ≤ 32
+frames_most s h = let f = sound-as-of s.copy s h in omega (arith, f.frames)
 
 module _ (page : ℕ) (entries : List Dirty) (i : ℕ) where
   abbrev here : Bool
@@ -94,7 +99,7 @@ abbrev pub added_at : State → ℕ → Staged → State
 added_at s place update = set_open (set_staged s (set s.staged place update)) s.reserved (s.described + 1)
 
 -- an update in a free area, in the place after those that wait, with its bytes copied there
-pub describe-done : (s : State) (a : Answer) (r : State) (page offset area start count : ℕ) (bytes staging staging' : List ℕ) → length s.staged ≡ 32
+pub describe-done : (s : State) (a : Result (Unit {0}) Refusal) (r : State) (page offset area start count : ℕ) (bytes staging staging' : List ℕ) → length s.staged ≡ 32
     → describe_refusal s (length staging) page offset (length bytes) ≡ 0 → area < s.frames → member area (areas_of (staged_of s)) ≡ false
     → count ≡ total (groups_of s) + s.described → start ≡ area
     → r ≡ added_at s count (record { page = page; offset = offset; length = length bytes; area = area })
@@ -109,6 +114,6 @@ describe-done s a r page offset area start count bytes staging staging' long e b
     (any-answer ((describe-met s page offset area bytes staging long e below free).accepted e)))
   where
     -- the step does not speak of the answer
-    any-answer : {x : State} {l : List ℕ} → DescribeStep s (update_of page offset bytes) staging (record { state = x; answer = Done }) l
+    any-answer : {x : State} {l : List ℕ} → DescribeStep s (update_of page offset bytes) staging (record { state = x; answer = Ok tt }) l
         → DescribeStep s (update_of page offset bytes) staging (record { state = x; answer = a }) l
     any-answer d = record { area = d.area; area_below = d.area_below; area_free = d.area_free; staging_is = d.staging_is; state_is = d.state_is; leaves = d.leaves }

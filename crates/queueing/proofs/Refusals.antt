@@ -15,10 +15,8 @@ use Rattle.area.proofs.Laws.{not-passed}
 use Rattle.block.proofs.Tests.{tests}
 use Rattle.promises.specs.declared.State.{State}
 use Rattle.promises.specs.declared.Refusal.{Refusal}
-use Rattle.promises.specs.declared.Answer.{Answer}
-use Rattle.promises.specs.declared.Ended.TheVariants.{Refused as EndRefused}
-use Rattle.promises.specs.declared.Standing.TheVariants.{Refused as StandingRefused}
-use Rattle.promises.specs.Answers.{Reply, refuses, done, gives, says, number_of, replied, answered}
+use Rattle.std.specs.Prelude.{Result, Err}
+use Rattle.promises.specs.Answers.{Reply, refuses, done, gives, says, number_of, refusal_in, replied, answered}
 use Rattle.promises.specs.Areas.{log_fits}
 use Rattle.promises.specs.Updates.{Update}
 use Rattle.promises.specs.Contents.{contents_of, total, groups_of}
@@ -31,7 +29,7 @@ use Rattle.promises.specs.Describe.{describe_refusal, DescribeStep, Describes}
 use Rattle.promises.specs.End.{end_refusal, Ends}
 use Rattle.promises.specs.Settled.{settled_refusal, Settles}
 use Rattle.promises.specs.Read.{read_refusal}
-use Rattle.promises.proofs.Replies.{replied-refused}
+use Rattle.promises.proofs.Replies.{replied-refused, numbered, answered-by}
 use Rattle.promises.proofs.Soundness.{Sound, SoundAs, sound-of, sound-as-of}
 use Rattle.promises.proofs.Changes.{pick-zero, pick_other, begin-met, describe-passed, groups-count}
 use Rattle.soundness.specs.declared.sums.Sums.{Sums}
@@ -56,32 +54,19 @@ module _ (s : State) (t : Sums) (u : ℕ) (h : Summed s t) where
   pub room-law : (leb (t.held + t.waiting + t.dirty + t.queued + 2 * u + 1) s.slots && leb (t.dirty + t.queued + u) s.frames) ≡ begin_has_room s u
   room-law = rw (h.held, h.waiting, h.dirty, h.queued)
 
--- ---- refused calls
+-- ---- calls by what their test answers
 
-module _ (x : Refusal) (number : ℕ) (is : number_of x ≡ number) (some : number ≡ 0 → ⊥) where
-  -- the whole answer of a refused call
-  whole-answer : {n : ℕ} → number ≡ n → (reply : Reply) → refuses (number_of x) ≡ replied n reply
-  whole-answer {n} e reply = ap refuses (is ∙ e) ∙ sym (replied-refused n reply (λ z. some (e ∙ z)))
-
-  pub end_refused : (s : State) → number ≡ end_refusal s → Ends s (record { state = s; answer = EndRefused x })
-  end_refused s e = record { answer_is = whole-answer e (gives (last_ended s + 1)); refused = λ n. refl; state_is = λ z. absurd (some (e ∙ z)); leaves = λ z. absurd (some (e ∙ z)) }
-
-  pub settled-refused : (s : State) (ticket : ℕ) → number ≡ settled_refusal s ticket → Settles s ticket (StandingRefused x)
-  settled-refused s ticket e = record { answer_is = whole-answer e (says (leb ticket s.ticket)) }
-
--- ---- calls that are done or refused, by their number
-
-module _ (number : ℕ) (a : Answer) (told : answered a ≡ replied number done) where
+module _ (a : Result (Unit {0}) Refusal) where
   -- the whole answer
-  answer-by : {n : ℕ} → number ≡ n → answered a ≡ replied n done
-  answer-by e = told ∙ ap (λ (n : ℕ). replied n done) e
+  answer-by : {n : ℕ} → refusal_in a ≡ n → answered a ≡ replied n done
+  answer-by e = answered-by a ∙ ap (λ (n : ℕ). replied n done) e
 
-  pub format-by : (log log' : List ℕ) → number ≡ format_refusal (length log)
-      → ((number ≡ 0) × (log' ≡ replicate (length log) 0)) ⊎ ((number ≡ 0 → ⊥) × (log' ≡ log)) → Formats log a log'
+  pub format-by : (log log' : List ℕ) → refusal_in a ≡ format_refusal (length log)
+      → ((refusal_in a ≡ 0) × (log' ≡ replicate (length log) 0)) ⊎ ((refusal_in a ≡ 0 → ⊥) × (log' ≡ log)) → Formats log a log'
   format-by log log' e (inl w) = record { answer_is = answer-by e; refused = λ n. absurd (n (sym e ∙ w.0)); accepted = λ z. w.1 }
   format-by log log' e (inr w) = record { answer_is = answer-by e; refused = λ n. w.1; accepted = λ z. absurd (w.0 (e ∙ z)) }
 
-  pub begin-by : (s : State) (u : ℕ) (r : State) → number ≡ begin_refusal s u → ((number ≡ 0) × (r ≡ begun_state s u)) ⊎ ((number ≡ 0 → ⊥) × (r ≡ s))
+  pub begin-by : (s : State) (u : ℕ) (r : State) → refusal_in a ≡ begin_refusal s u → ((refusal_in a ≡ 0) × (r ≡ begun_state s u)) ⊎ ((refusal_in a ≡ 0 → ⊥) × (r ≡ s))
       → Begins s u (record { state = r; answer = a })
   begin-by s u r e (inl w) = record {
     answer_is = answer-by e;
@@ -92,11 +77,24 @@ module _ (number : ℕ) (a : Answer) (told : answered a ≡ replied number done)
   begin-by s u r e (inr w) = record { answer_is = answer-by e; refused = λ n. w.1; state_is = λ z. absurd (w.0 (e ∙ z)); leaves = λ z. absurd (w.0 (e ∙ z)) }
 
   pub describe-by : (s : State) (update : Update) (staging : List ℕ) (r : State) (staging' : List ℕ)
-      → number ≡ describe_refusal s (length staging) update.page update.offset (length update.bytes)
-      → ((number ≡ 0) × DescribeStep s update staging (record { state = r; answer = a }) staging') ⊎ ((number ≡ 0 → ⊥) × (r ≡ s) × (staging' ≡ staging))
+      → refusal_in a ≡ describe_refusal s (length staging) update.page update.offset (length update.bytes)
+      → ((refusal_in a ≡ 0) × DescribeStep s update staging (record { state = r; answer = a }) staging') ⊎ ((refusal_in a ≡ 0 → ⊥) × (r ≡ s) × (staging' ≡ staging))
       → Describes s update staging (record { state = r; answer = a }) staging'
   describe-by s update staging r staging' e (inl w) = record { answer_is = answer-by e; refused = λ n. absurd (n (sym e ∙ w.0)); accepted = λ z. w.1 }
   describe-by s update staging r staging' e (inr w) = record { answer_is = answer-by e; refused = λ n. (w.1, w.2); accepted = λ z. absurd (w.0 (e ∙ z)) }
+
+-- ---- refused calls that answer with a value
+
+module _ (x : Refusal) where
+  -- the whole answer of a refused call
+  whole-answer : {n : ℕ} → number_of x ≡ n → (reply : Reply) → refuses (number_of x) ≡ replied n reply
+  whole-answer {n} e reply = ap refuses e ∙ sym (replied-refused n reply (λ z. numbered x (e ∙ z)))
+
+  pub end_refused : (s : State) → number_of x ≡ end_refusal s → Ends s (record { state = s; answer = Err x })
+  end_refused s e = record { answer_is = whole-answer e (gives (last_ended s + 1)); refused = λ n. refl; state_is = λ z. absurd (numbered x (e ∙ z)); leaves = λ z. absurd (numbered x (e ∙ z)) }
+
+  pub settled-refused : (s : State) (ticket : ℕ) → number_of x ≡ settled_refusal s ticket → Settles s ticket (Err x)
+  settled-refused s ticket e = record { answer_is = whole-answer e (says (leb ticket s.ticket)) }
 
 -- ---- accepted calls
 

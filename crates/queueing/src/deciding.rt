@@ -1,8 +1,8 @@
-// What each call is refused with, by number, 0 where it is accepted; tested in the order that docs/CALLS.md gives.
-ghost use Rattle.std.specs.Prelude.{◌≡◌, ◌+◌, ◌≤◌, leb};
+// What each call is refused with; tested in the order that docs/CALLS.md gives.
+ghost use Rattle.std.specs.Prelude.{◌≡◌, ◌+◌, ◌≤◌, leb, IfOk};
 ghost use Rattle.block.specs.Sizes.{sequence_end};
+ghost use Rattle.promises.specs.Answers.{refusal_in};
 ghost use Rattle.promises.specs.Sums.{waiting_blocks};
-ghost use Rattle.promises.specs.Sound.{sound, readable};
 ghost use Rattle.promises.specs.Format.{format_refusal};
 ghost use Rattle.promises.specs.Begin.{begin_in_range, begin_has_room, begin_refusal};
 ghost use Rattle.promises.specs.Describe.{describe_refusal};
@@ -10,22 +10,21 @@ ghost use Rattle.promises.specs.End.{end_refusal};
 ghost use Rattle.promises.specs.Settled.{settled_refusal};
 ghost use Rattle.promises.specs.Read.{read_refusal};
 ghost use Rattle.soundness.specs.Summed.{Summed, Small};
-ghost use Rattle.soundness.specs.Verdicts.{Judges};
+ghost use Rattle.soundness.specs.Verdicts.{Judges, JudgesAs};
 
 use block::Block;
-use promises::State;
-use soundness::Verdict;
+use promises::{Refusal, State};
 use soundness::sums::Sums;
 
 // Format, of the log's length: 1.
-pub fn format_refusal(length: usize) -> u64
-    ensures { (result ≡ format_refusal length) × (result ≤ 11) }
+pub fn format_refusal(length: usize) -> Result<(), Refusal>
+    ensures { refusal_in result ≡ format_refusal length }
 {
     let slots = length / Block::SIZE;
     if (slots * Block::SIZE == length) & (8 <= slots) & (slots <= 1024) {
-        return 0;
+        return Ok(());
     }
-    1
+    Err(Refusal::WrongLength)
 }
 
 // Whether u is a number of updates that Begin can reserve.
@@ -57,105 +56,102 @@ fn begin_has_room(state: State, sums: Sums, u: usize) -> bool
 }
 
 // Begin, of the verdict on the state and of u: 2; 3; 4; 6; 5.
-pub fn begin_refusal(verdict: Verdict, state: State, u: usize) -> u64
+pub fn begin_refusal(verdict: Option<Sums>, state: State, u: usize) -> Result<(), Refusal>
     requires { Judges state verdict }
-    ensures { (result ≡ begin_refusal state u) × (result ≤ 11) }
+    ensures { refusal_in result ≡ begin_refusal state u }
 {
-    if !verdict.sound {
-        return 2;
-    }
+    let sums = verdict.ok_or(Refusal::NotSound)?;
     if !begin_in_range(state, u) {
-        return 3;
+        return Err(Refusal::OutOfRange);
     }
     if state.reserved != 0 {
-        return 4;
+        return Err(Refusal::WrongMoment);
     }
-    let sums = verdict.sums;
     if !sequences_left(state, sums, u) {
-        return 6;
+        return Err(Refusal::SequencesUsedUp);
     }
     if !begin_has_room(state, sums, u) {
-        return 5;
+        return Err(Refusal::Full);
     }
-    0
+    Ok(())
 }
 
-// Describe, of whether the state is sound, of staging's length and of an update's place and length: 2; 1; 4; 3; 5.
+// Describe, of the verdict on the state, of staging's length and of an update's place and length: 2; 1; 4; 3; 5. Where it is accepted, the
+// sums over the state.
 pub fn describe_refusal(
-    holds: bool,
+    verdict: Option<Sums>,
     state: State,
     staging: usize,
     page: usize,
     offset: usize,
     count: usize,
-) -> u64
-    requires { holds ≡ sound state }
-    ensures { (result ≡ describe_refusal state staging page offset count) × (result ≤ 11) }
+) -> Result<Sums, Refusal>
+    requires { Judges state verdict }
+    ensures refusal { refusal_in result ≡ describe_refusal state staging page offset count }
+    ensures sums { IfOk result (Summed state) }
 {
-    if !holds {
-        return 2;
-    }
+    let sums = verdict.ok_or(Refusal::NotSound)?;
     if staging != state.frames * Block::NEW_BYTES {
-        return 1;
+        return Err(Refusal::WrongLength);
     }
     if state.reserved == 0 {
-        return 4;
+        return Err(Refusal::WrongMoment);
     }
     if !block::legal_place(state.pages, page, offset, count) {
-        return 3;
+        return Err(Refusal::OutOfRange);
     }
     if state.described < state.reserved {
-        return 0;
+        return Ok(sums);
     }
-    5
+    Err(Refusal::Full)
 }
 
-// End, of whether the state is sound: 2; 4; 10.
-pub fn end_refusal(holds: bool, state: State) -> u64
-    requires { holds ≡ sound state }
-    ensures { (result ≡ end_refusal state) × (result ≤ 11) }
+// End, of the verdict on the state: 2; 4; 10.
+pub fn end_refusal(verdict: Option<Sums>, state: State) -> Result<(), Refusal>
+    requires { Judges state verdict }
+    ensures { refusal_in result ≡ end_refusal state }
 {
-    if !holds {
-        return 2;
-    }
+    verdict.ok_or(Refusal::NotSound)?;
     if state.reserved == 0 {
-        return 4;
+        return Err(Refusal::WrongMoment);
     }
     if state.described == 0 {
-        return 10;
+        return Err(Refusal::NothingToDo);
     }
-    0
+    Ok(())
 }
 
-// Settled, of whether the state, a desk's or a copy's, is sound and of a ticket: 2; 3.
-pub fn settled_refusal(holds: bool, state: State, ticket: u64) -> u64
-    requires { holds ≡ readable state }
-    ensures { (result ≡ settled_refusal state ticket) × (result ≤ 11) }
+// Settled, of the verdict on the state, a desk's or a copy's, and of a ticket: 2; 3.
+pub fn settled_refusal(verdict: Option<Sums>, state: State, ticket: u64) -> Result<(), Refusal>
+    requires { JudgesAs state.copy state verdict }
+    ensures { refusal_in result ≡ settled_refusal state ticket }
 {
-    if !holds {
-        return 2;
-    }
+    verdict.ok_or(Refusal::NotSound)?;
     let last = state.ticket + state.queued as u64;
     if (1 <= ticket) & (ticket <= last) {
-        return 0;
+        return Ok(());
     }
-    3
+    Err(Refusal::OutOfRange)
 }
 
-// Read, of whether the state, a desk's or a copy's, is sound, of the lengths of home and frames and of the page: 2; 1; 3.
-pub fn read_refusal(holds: bool, state: State, home: usize, frames: usize, page: usize) -> u64
-    requires { holds ≡ readable state }
-    ensures { (result ≡ read_refusal state home frames page) × (result ≤ 11) }
+// Read, of the verdict on the state, a desk's or a copy's, of the lengths of home and frames and of the page: 2; 1; 3.
+pub fn read_refusal(
+    verdict: Option<Sums>,
+    state: State,
+    home: usize,
+    frames: usize,
+    page: usize,
+) -> Result<(), Refusal>
+    requires { JudgesAs state.copy state verdict }
+    ensures { refusal_in result ≡ read_refusal state home frames page }
 {
-    if !holds {
-        return 2;
-    }
+    verdict.ok_or(Refusal::NotSound)?;
     let right = (home == state.pages * Block::PAGE) & (frames == state.frames * Block::PAGE);
     if !right {
-        return 1;
+        return Err(Refusal::WrongLength);
     }
     if page < state.pages {
-        return 0;
+        return Ok(());
     }
-    3
+    Err(Refusal::OutOfRange)
 }

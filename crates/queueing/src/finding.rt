@@ -11,34 +11,26 @@ pub fn free_area(staged: [Staged; 32], count: usize, frames: usize) -> u8
     requires { (count < frames) × (frames ≤ 32) }
     ensures { (result < frames) × (member result (areas_of (take count staged)) ≡ false) }
 {
-    let areas = soundness::queued::areas_of(staged, count);
-    let list = areas.list;
-    let end = frames as u8;
-    let mut area: u8 = 0;
-    while area < end {
-        let number = soundness::wide::short(area);
-        if !soundness::numbers::member_from(&list[..count], 0, number) {
+    let waiting = &staged[..count];
+    for area in 0..frames as u8 {
+        if !waiting.iter().any(|update| area == update.area) {
             return area;
         }
-        area += 1;
     }
-    area
+    unreachable!()
 }
 
 // The frame that holds a page; the count of frames where the page is at home.
+#[tactic(auto, using(crate::proofs::Places::frames_most))]
 pub fn frame_of(state: State, page: u16) -> usize
     requires { readable state ≡ true }
     ensures { (held_in page 0 state.dirty ≡ held_at state.frames result) × (result ≤ state.frames) }
 {
-    let frames = state.frames;
-    let dirty = state.dirty;
-    let mut i = 0;
-    while i < frames {
-        let entry = dirty[i];
+    let dirty = &state.dirty[..state.frames];
+    for (frame, entry) in dirty.iter().enumerate() {
         if (entry.first != 0) & (page == entry.page) {
-            return i;
+            return frame;
         }
-        i += 1;
     }
-    i
+    state.frames
 }

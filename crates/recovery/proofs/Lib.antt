@@ -2,6 +2,5 @@ pub mod Scanning
 pub mod Groups
 pub mod Ordering
 pub mod Changing
-pub mod Stages
 pub mod Turning
 pub mod Leading

@@ -1,14 +1,15 @@
--- The scan of the slots, slot by slot, and the search for a missing block.
+-- The scan of the slots, slot by slot.
 -- Assumes nothing.
 use mathlib.Core.Path.{◌≡◌, refl, sym, ap, ◌∙◌, subst}
 use mathlib.Core.Bool.{Bool, true, false, ◌&&◌, and-true}
 use mathlib.Core.List.{List, [], ◌∷◌}
 use Prim.Native.Nat.{ℕ, suc, ◌+◌, ◌-◌, ◌*◌, ◌/◌, ◌%◌, ◌≤◌, ◌<◌, max}
 use native.Mathlib.Omega.{arith}
-use native.Mathlib.Nat.{mod-lt, div-add-mod', mul-add-mod_self_right, mod-eq_of_lt, suc-mul}
+use native.Mathlib.Nat.{mod-lt}
 use native.Mathlib.Decide.{ℕ_discrete}
 use lib.ListN.{length, get_or, set}
 use lib.Seq.{get_or-set_same, get_or-set_other}
+use Rattle.std.specs.Ordering.{nat_cmp, ord_max}
 use Rattle.area.specs.Part.{part}
 use Rattle.area.proofs.Parts.{length_part}
 use Rattle.block.specs.Legal.{slot_of}
@@ -21,19 +22,7 @@ use Rattle.promises.specs.Areas.{slot_bytes, slots_in}
 use Rattle.promises.specs.Blocks.{Slot, slot_in, slot_at, slots_from}
 use Rattle.promises.specs.Newest.{sequence_in, is_unused, is_damaged, newest, all_unused}
 use Rattle.recovery.specs.Log.{bytes_of, header_of}
-use Rattle.recovery.specs.Slots.{sequence_of, is_empty, judged_damaged, standing}
-
--- ---- the slot after a slot
-
-pub slot-again : (s n : ℕ) → 0 < n → s % n + 1 ≡ n → (s + 1) % n ≡ 0
-slot-again s n h e =
-    let p : s + 1 ≡ suc (s / n) * n + 0 = omega (arith, div-add-mod' s n, suc-mul (s / n) n) in
-    ap (λ (x : ℕ). x % n) p ∙ mul-add-mod_self_right (suc (s / n)) n 0 ∙ mod-eq_of_lt h
-
-pub slot_next : (s n : ℕ) → s % n + 1 < n → (s + 1) % n ≡ s % n + 1
-slot_next s n h =
-    let p : s + 1 ≡ s / n * n + (s % n + 1) = omega (arith, div-add-mod' s n) in
-    ap (λ (x : ℕ). x % n) p ∙ mul-add-mod_self_right (s / n) n (s % n + 1) ∙ mod-eq_of_lt h
+use Rattle.recovery.specs.Slots.{sequence_of, is_empty}
 
 -- ---- a slot lies in the log
 
@@ -52,10 +41,6 @@ slot-in n s h = slot-within n (s % (n / 512)) (slot-below n s h)
 
 pub length-slot : (log : List ℕ) (s : ℕ) → 512 ≤ length log → length (bytes_of log s) ≡ 512
 length-slot log s h = length-slot-bytes log (s % (length log / 512)) (slot-below (length log) s h)
-
--- a slot carried beside a sequence: one of the slots, and its bytes are those of the sequence
-pub slot-one : (n s slot : ℕ) → 512 ≤ n → slot ≡ slot_of (slots_in n) s → slot < slots_in n
-slot-one n s slot h e = subst (λ (k : ℕ). k < slots_in n) (sym e) (slot-below n s h)
 
 pub bytes-are : (log : List ℕ) (s slot : ℕ) (bytes : List ℕ) → bytes ≡ slot_bytes log slot → slot ≡ slot_of (slots_in (length log)) s
     → bytes ≡ bytes_of log s
@@ -81,19 +66,16 @@ same-empty Unused bytes = refl
 same-empty Damaged bytes = refl
 same-empty (Valid b) bytes = refl
 
-same-damaged : (j : Judged) (bytes : List ℕ) → is_damaged (slot_in j bytes) ≡ judged_damaged j
-same-damaged Unused bytes = refl
-same-damaged Damaged bytes = refl
-same-damaged (Valid b) bytes = refl
-
-pub bytes-damaged : (N P i : ℕ) (bytes : List ℕ) (j : Judged) (r : Bool) → j ≡ judged N P i bytes → r ≡ judged_damaged j
-    → r ≡ is_damaged (slot_in (judged N P i bytes) bytes)
-bytes-damaged N P i bytes j r e f = f ∙ ap judged_damaged e ∙ sym (same-damaged (judged N P i bytes) bytes)
-
 pub slot-damaged : (N P i : ℕ) (log bytes : List ℕ) (r : Bool) → bytes ≡ slot_bytes log i → r ≡ is_damaged (slot_in (judged N P i bytes) bytes)
     → r ≡ is_damaged (slot_at N P log i)
 unfolding slot_at
 slot-damaged N P i log bytes r e f = f ∙ ap (λ (x : List ℕ). is_damaged (slot_in (judged N P i x) x)) e
+
+-- a slot that is not judged as unused
+pub empty-not : (j : Judged) → (j ≡ Unused → ⊥) → is_empty j ≡ false
+empty-not Unused n = absurd (n refl)
+empty-not Damaged n = refl
+empty-not (Valid b) n = refl
 
 module _ (N P : ℕ) (log : List ℕ) (i : ℕ) (j : Judged) (e : j ≡ judged N P i (part log (i * 512) 512)) where
   pub slot-sequence : sequence_of j ≡ sequence_in (slot_at N P log i)
@@ -103,6 +85,10 @@ module _ (N P : ℕ) (log : List ℕ) (i : ℕ) (j : Judged) (e : j ≡ judged N
   pub slot-empty : is_empty j ≡ is_unused (slot_at N P log i)
   unfolding slot_at
   slot-empty = ap is_empty e ∙ sym (same-empty (judged N P i (part log (i * 512) 512)) (part log (i * 512) 512))
+
+-- the larger of two numbers, as `max` of the code tells it
+pub max-is : (a b : ℕ) → ord_max nat_cmp a b ≡ max a b
+max-is a b = grind arith
 
 -- ---- one more slot
 
@@ -115,7 +101,7 @@ module _ (N P : ℕ) (log : List ℕ) (i n : ℕ) (h : i < n) where
       rw (e, ← f)
 
   pub newest-more : (found before whole : ℕ) → max before (newest (slots_from N P log i (n - i))) ≡ whole → found ≡ sequence_in (slot_at N P log i)
-      → max (max found before) (newest (slots_from N P log (i + 1) (n - (i + 1)))) ≡ whole
+      → max (max before found) (newest (slots_from N P log (i + 1) (n - (i + 1)))) ≡ whole
   unfolding newest
   newest-more found before whole e f =
       let g : newest (slots_from N P log i (n - i)) ≡ max (sequence_in (slot_at N P log i)) (newest (slots_from N P log (i + 1) (n - (i + 1)))) = ap newest slots_next in
@@ -154,15 +140,4 @@ noted_more N P log sequences i found h e f j l =
     elim (ℕ_discrete j i) [
       | yes q ↦ subst (λ (k : ℕ). get_or (set sequences i found) k 0 ≡ sequence_in (slot_at N P log k)) (sym q) (get_or-set_same sequences i found 0 h ∙ e)
       | no n ↦ get_or-set_other sequences i j found 0 n ∙ f j (omega arith)
-    ]
-
--- ---- the search for a missing block
-
--- one more sequence stands in its slot
-pub stand-more : (sequences : List ℕ) (first s : ℕ) → standing sequences s ≡ s
-    → ((q : ℕ) → first ≤ q → q < s → standing sequences q ≡ q) → (q : ℕ) → first ≤ q → q < s + 1 → standing sequences q ≡ q
-stand-more sequences first s e f q l h =
-    elim (ℕ_discrete q s) [
-      | yes x ↦ subst (λ (k : ℕ). standing sequences k ≡ k) (sym x) e
-      | no n ↦ f q l (omega arith)
     ]

@@ -84,22 +84,10 @@ module _ (log home : List ℕ) (s : ℕ) (walk : Walk) (frames : List ℕ) (pape
   test-is kind ticket = order_is kind ticket walk.stage.count walk.stage.ticket paper (sym group-count) st.ticket_is
 
 refused-at : (walk : Walk) (r : Walk) (refusal place : ℕ) → r ≡ refused_at walk refusal place → Refused r refusal place
-refused-at walk r refusal place e = record { refusal_is = ap (λ (w : Walk). w.stage.refusal) e; place_is = ap (λ (w : Walk). w.stage.place) e }
+refused-at walk r refusal place e = record { refusal_is = ap (λ (w : Walk). w.refusal) e; place_is = ap (λ (w : Walk). w.place) e }
 
-not-zero : {X : Type 0} (walk r : Walk) (refusal place : ℕ) → 0 < refusal → r ≡ refused_at walk refusal place → r.stage.refusal ≡ 0 → X
-not-zero walk r refusal place h e f = absurd (omega (arith, ap (λ (w : Walk). w.stage.refusal) e, f))
-
--- nothing happens once refused
-pub turns-not : (log home : List ℕ) (s : ℕ) (kind : Kind) (ticket : ℕ) (walk : Walk) (frames : List ℕ) → (walk.stage.refusal ≡ 0 → ⊥)
-    → Turns log home s kind ticket walk frames walk frames
-turns-not log home s kind ticket walk frames n = record {
-  count_is = refl;
-  stays = λ m. refl;
-  ready = λ e. absurd (n e);
-  out_of_order = λ paper st e. absurd (n st.going);
-  too_few = λ paper st e f. absurd (n st.going);
-  goes_on = λ paper st e f. absurd (n st.going);
-}
+not-zero : {X : Type 0} (walk r : Walk) (refusal place : ℕ) → 0 < refusal → r ≡ refused_at walk refusal place → r.refusal ≡ 0 → X
+not-zero walk r refusal place h e f = absurd (omega (arith, ap (λ (w : Walk). w.refusal) e, f))
 
 -- the block's kind and ticket, as its header tells them
 pub turns_as : (log home : List ℕ) (s : ℕ) (kind kind' : Kind) (ticket ticket' : ℕ) (walk : Walk) (frames : List ℕ) (r : Walk) (frames' : List ℕ) → kind ≡ kind' → ticket ≡ ticket'
@@ -107,7 +95,7 @@ pub turns_as : (log home : List ℕ) (s : ℕ) (kind kind' : Kind) (ticket ticke
 turns_as log home s kind kind' ticket ticket' walk frames r frames' e f x =
     subst (λ (k : Kind). Turns log home s k ticket' walk frames r frames') e (subst (λ (t : ℕ). Turns log home s kind t walk frames r frames') f x)
 
-module _ (log home : List ℕ) (s : ℕ) (walk : Walk) (frames : List ℕ) (v : Legal log home s) (z : walk.stage.refusal ≡ 0) (y : Ready log home s walk) where
+module _ (log home : List ℕ) (s : ℕ) (walk : Walk) (frames : List ℕ) (v : Legal log home s) (z : walk.refusal ≡ 0) (y : Ready log home s walk) where
   -- ---- an update
 
   module _ (index page offset count : ℕ) (k : (header_of log s).kind ≡ format.TheVariants.Update index page offset count) (r : Walk)
@@ -181,7 +169,7 @@ module _ (log home : List ℕ) (s : ℕ) (walk : Walk) (frames : List ℕ) (v : 
     same_count (first f g q) = ap (λ (w : Walk). w.table.count) q
     same_count (next f g q) = ap (λ (w : Walk). w.table.count) q
 
-    ready-then : Turn → r.stage.refusal ≡ 0 → Ready log home (suc s) r
+    ready-then : Turn → r.refusal ≡ 0 → Ready log home (suc s) r
     ready-then (wrong f q) h = not-zero walk r 8 s (omega arith) q h
     ready-then (first f g q) h = subst (Ready log home (suc s)) (sym q) ready-first
     ready-then (next f g q) h = subst (Ready log home (suc s)) (sym q) (ready-next f g)
@@ -237,7 +225,6 @@ module _ (log home : List ℕ) (s : ℕ) (walk : Walk) (frames : List ℕ) (v : 
     update-turns : Turns log home s (update index change) ticket walk frames r frames
     update-turns = record {
       count_is = same_count taken;
-      stays = λ n. absurd (n z);
       ready = ready-then taken;
       out_of_order = λ paper st h. refuses paper st taken h;
       too_few = λ paper st h g. absurd (never_both _ (framed-always paper) g);
@@ -267,7 +254,7 @@ module _ (log home : List ℕ) (s : ℕ) (walk : Walk) (frames : List ℕ) (v : 
     count-cleaned (bad f q) = ap (λ (w : Walk). w.table.count) q
     count-cleaned (good f t d q) = ap (λ (w : Walk). w.table.count) q ∙ d.count_is
 
-    ready-cleaned : Cleaned → r.stage.refusal ≡ 0 → Ready log home (suc s) r
+    ready-cleaned : Cleaned → r.refusal ≡ 0 → Ready log home (suc s) r
     ready-cleaned (bad f q) h = not-zero walk r 8 s (omega arith) q h
     ready-cleaned (good f t d q) h = subst (Ready log home (suc s)) (sym q) record {
       half = λ x. absurd (omega arith);
@@ -306,7 +293,6 @@ module _ (log home : List ℕ) (s : ℕ) (walk : Walk) (frames : List ℕ) (v : 
     clean-turns : Turns log home s (clean page) (header_of log s).ticket walk frames r frames
     clean-turns = record {
       count_is = count-cleaned cleaned;
-      stays = λ n. absurd (n z);
       ready = ready-cleaned cleaned;
       out_of_order = λ paper st h. refuses-clean paper st cleaned h;
       too_few = λ paper st h g. absurd (never_both _ (framed-clean paper) g);
@@ -320,9 +306,6 @@ module _ (log home : List ℕ) (s : ℕ) (walk : Walk) (frames : List ℕ) (v : 
 
   module _ (updates : ℕ) (k : (header_of log s).kind ≡ format.TheVariants.Commit updates) (r : Walk) (frames' : List ℕ)
       (e : Commits log home walk frames s updates (header_of log s).ticket r frames') where
-    ours : ℕ
-    ours = (header_of log s).ticket
-
     -- by its test, and by whether a page found no frame
     data Committed : Type 0 where
       bad : walk_fits walk (commit updates) (header_of log s).ticket ≡ false → r ≡ refused_at walk 8 s → Committed
@@ -346,7 +329,7 @@ module _ (log home : List ℕ) (s : ℕ) (walk : Walk) (frames : List ℕ) (v : 
     count-committed (full f t a h q) = ap (λ (w : Walk). w.table.count) q ∙ a.count_is
     count-committed (good f t a h q) = ap (λ (w : Walk). w.table.count) q ∙ a.count_is
 
-    ready-committed : Committed → r.stage.refusal ≡ 0 → Ready log home (suc s) r
+    ready-committed : Committed → r.refusal ≡ 0 → Ready log home (suc s) r
     ready-committed (bad f q) h = not-zero walk r 8 s (omega arith) q h
     ready-committed (full f t a g q) h = not-zero (closed_with walk (header_of log s).ticket t) r 9 s (omega arith) q h
     ready-committed (good f t a g q) h = subst (Ready log home (suc s)) (sym q) record {
@@ -417,7 +400,6 @@ module _ (log home : List ℕ) (s : ℕ) (walk : Walk) (frames : List ℕ) (v : 
     commit-turns : Turns log home s (commit updates) (header_of log s).ticket walk frames r frames'
     commit-turns = record {
       count_is = count-committed committed;
-      stays = λ n. absurd (n z);
       ready = ready-committed committed;
       out_of_order = λ paper st h. refuses-commit paper st committed h;
       too_few = λ paper st h g. lacks-frames paper st committed h g;

@@ -19,11 +19,6 @@ is_empty Unused = true
 is_empty Damaged = false
 is_empty (Valid block) = false
 
-abbrev pub judged_damaged : Judged → Bool
-judged_damaged Unused = false
-judged_damaged Damaged = true
-judged_damaged (Valid block) = false
-
 -- each slot's sequence, for a log of so many slots and a home of so many pages
 abbrev pub Sequences : ℕ → ℕ → List ℕ → List ℕ → Type 0
 Sequences slots pages log sequences = (i : ℕ) → i < slots → get_or sequences i 0 ≡ sequence_in (slot_at slots pages log i)

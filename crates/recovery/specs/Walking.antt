@@ -1,7 +1,10 @@
 -- The code's walk beside the promised one (`Walk` of promises, here `PaperWalk`): what one block makes of it, what it stands for, and what
 -- comes of all.
 -- Assumes nothing.
-use Rattle.std.specs.Prelude.{ℕ, suc, ◌+◌, ◌-◌, ◌≤◌, ◌<◌, ◌≡◌, Bool, true, false, cond, List, length, eqb, leb}
+use Rattle.std.specs.Prelude.{ℕ, suc, ◌+◌, ◌-◌, ◌≤◌, ◌<◌, ◌≡◌, Bool, true, false, cond, List, length, eqb, leb, Result, Ok, Err}
+use Rattle.promises.specs.declared.Refusal.TheVariants.{LogOutOfOrder}
+use Rattle.promises.specs.declared.Stop.{Stop}
+use Rattle.promises.specs.Answers.{number_of}
 use Rattle.promises.specs.Areas.{page_at, pages_in}
 use Rattle.promises.specs.Blocks.{Kind, update, commit, clean}
 use Rattle.promises.specs.LogStep.{no_update}
@@ -16,36 +19,52 @@ use Rattle.recovery.specs.Order.{in_order_after}
 
 -- ---- where the code's walk stands
 
--- the code's stage, and the dirty pages
+-- the number of its refusal, 0 for none, and the place; the stage; the dirty pages
 pub record Walk : Type 0 where
+  pub refusal : ℕ
+  pub place : ℕ
   pub stage : Stage
   pub table : Table
 
--- a stage with its seats: a page found no frame where the refusal is 9
-abbrev pub walk_of : Stage → List ℕ → Walk
-walk_of stage seats = record { stage = stage; table = seated (eqb stage.refusal 9) seats }
+-- no half group, and no ticket: of a refused walk nothing is left but its refusal and the dirty pages
+abbrev pub no_stage : Stage
+no_stage = record { ticket = 0; start = 0; count = 0 }
+
+-- a stage, or the stop of a refused walk, with the seats: a page found no frame where the refusal is 9
+abbrev pub walk_of : Result Stage Stop → List ℕ → Walk
+walk_of (Ok stage) seats = record { refusal = 0; place = 0; stage = stage; table = seated false seats }
+walk_of (Err stop) seats = record {
+  refusal = number_of stop.refusal;
+  place = stop.place;
+  stage = no_stage;
+  table = seated (eqb (number_of stop.refusal) 9) seats;
+}
+
+-- refusal 8 at a place
+abbrev pub out_of_order_at : ℕ → Stop
+out_of_order_at place = record { refusal = LogOutOfOrder; place = place }
 
 -- refused at a place
-abbrev pub stage_refused : Stage → ℕ → ℕ → Stage
-stage_refused stage refusal place =
-    record { refusal = refusal; place = place; ticket = stage.ticket; start = stage.start; count = stage.count }
-
 abbrev pub refused_at : Walk → ℕ → ℕ → Walk
-refused_at walk refusal place = record { stage = stage_refused walk.stage refusal place; table = walk.table }
+refused_at walk refusal place = record { refusal = refusal; place = place; stage = no_stage; table = walk.table }
 
 -- with a half group of so many updates
-abbrev pub stage_half : Stage → ℕ → ℕ → Stage
-stage_half stage start count = record { refusal = stage.refusal; place = stage.place; ticket = stage.ticket; start = start; count = count }
-
 abbrev pub half_at : Walk → ℕ → ℕ → Walk
-half_at walk start count = record { stage = stage_half walk.stage start count; table = walk.table }
+half_at walk start count = record {
+  refusal = walk.refusal;
+  place = walk.place;
+  stage = record { ticket = walk.stage.ticket; start = start; count = count };
+  table = walk.table;
+}
 
 -- without a half group, with this ticket and these dirty pages
-abbrev pub stage_closed : Stage → ℕ → Stage
-stage_closed stage ticket = record { refusal = stage.refusal; place = stage.place; ticket = ticket; start = 0; count = 0 }
-
 abbrev pub closed_with : Walk → ℕ → Table → Walk
-closed_with walk ticket table = record { stage = stage_closed walk.stage ticket; table = table }
+closed_with walk ticket table = record {
+  refusal = walk.refusal;
+  place = walk.place;
+  stage = record { ticket = ticket; start = 0; count = 0 };
+  table = table;
+}
 
 -- ---- the code's turns
 
@@ -77,10 +96,6 @@ pub record Commits (log home : List ℕ) (walk : Walk) (frames : List ℕ) (sequ
 abbrev pub span_fits : Table → ℕ → ℕ → ℕ → Bool
 span_fits table slots next own = leb (next - smallest own (first_groups table.dirty) + length (first_groups table.dirty)) slots
 
--- the last test: H + D above N is 8 at M
-unfoldable pub tested : ℕ → ℕ → Walk → Walk
-tested slots last walk = cond (eqb walk.stage.refusal 0) (cond (span_fits walk.table slots (last + 1) (last + 1)) walk (refused_at walk 8 last)) walk
-
 -- ---- beside the promised walk
 
 -- the walk may meet the block of this sequence: its half group ends before it, with updates that fit home, and its ticket is below it and
@@ -99,7 +114,7 @@ Early pages sequence page first = (page < pages) × (1 ≤ first) × (first < se
 
 -- the walk, before the block of this sequence, and the frames' bytes stand for the promised walk
 pub record Stands (log home : List ℕ) (sequence : ℕ) (walk : Walk) (frames : List ℕ) (paper : PaperWalk) : Type 0 where
-  pub going : walk.stage.refusal ≡ 0
+  pub going : walk.refusal ≡ 0
   pub not_full : walk.table.full ≡ false
   pub ticket_is : walk.stage.ticket ≡ paper.ticket
   pub start_is : walk.stage.start ≡ paper.start
@@ -109,14 +124,13 @@ pub record Stands (log home : List ℕ) (sequence : ℕ) (walk : Walk) (frames :
 
 -- the walk ended with this refusal at this place
 pub record Refused (walk : Walk) (refusal place : ℕ) : Type 0 where
-  pub refusal_is : walk.stage.refusal ≡ refusal
-  pub place_is : walk.stage.place ≡ place
+  pub refusal_is : walk.refusal ≡ refusal
+  pub place_is : walk.place ≡ place
 
--- what the block of a sequence makes of a walk: nothing once refused; 8, then 9, then the promised walk's turn
+-- what the block of a sequence makes of a walk that goes on: 8, then 9, then the promised walk's turn
 pub record Turns (log home : List ℕ) (sequence : ℕ) (kind : Kind) (ticket : ℕ) (walk : Walk) (frames : List ℕ) (result : Walk) (frames' : List ℕ) : Type 0 where
   pub count_is : result.table.count ≡ walk.table.count
-  pub stays : (walk.stage.refusal ≡ 0 → ⊥) → result ≡ walk
-  pub ready : result.stage.refusal ≡ 0 → Ready log home (suc sequence) result
+  pub ready : result.refusal ≡ 0 → Ready log home (suc sequence) result
   pub out_of_order : (paper : PaperWalk) → Stands log home sequence walk frames paper → in_order kind ticket paper ≡ false → Refused result 8 sequence
   pub too_few : (paper : PaperWalk) → Stands log home sequence walk frames paper → in_order kind ticket paper ≡ true
       → framed walk.table.count (page_at home) kind paper ≡ false → Refused result 9 sequence
@@ -126,14 +140,14 @@ pub record Turns (log home : List ℕ) (sequence : ℕ) (kind : Kind) (ticket : 
 
 -- what a walk leads to, with so many blocks left from a sequence on: refused, it is that; otherwise what the promised walk over them finds
 pub record Leads (log home : List ℕ) (slots next sequence more : ℕ) (walk : Walk) (frames : List ℕ) (found : Finding) : Type 0 where
-  pub refused : (walk.stage.refusal ≡ 0 → ⊥) → found ≡ stops walk.stage.refusal walk.stage.place
-  pub goes : walk.stage.refusal ≡ 0
+  pub refused : (walk.refusal ≡ 0 → ⊥) → found ≡ stops walk.refusal walk.place
+  pub goes : walk.refusal ≡ 0
       → (paper : PaperWalk) × Stands log home sequence walk frames paper
       × (walk_from slots walk.table.count (page_at home) next sequence (blocks_from log sequence more) paper ≡ found)
 
 -- what all blocks from first to last make of a walk: it leads to the same
 pub record Walks (log home : List ℕ) (first last : ℕ) (walk : Walk) (frames : List ℕ) (result : Walk) (frames' : List ℕ) : Type 0 where
   pub count_is : result.table.count ≡ walk.table.count
-  pub ready : result.stage.refusal ≡ 0 → Ready log home (last + 1) result
+  pub ready : result.refusal ≡ 0 → Ready log home (last + 1) result
   pub leads : (slots next : ℕ) (found : Finding) → Leads log home slots next first (last + 1 - first) walk frames found
       → Leads log home slots next (last + 1) 0 result frames' found

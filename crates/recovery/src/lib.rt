@@ -4,7 +4,7 @@
 
 pub mod order;
 
-ghost use Rattle.std.specs.Prelude.{◌≡◌, List, true, false, not, ℕ, ◌+◌, ◌-◌, ◌*◌, ◌≤◌, ◌<◌, max, length};
+ghost use Rattle.std.specs.Prelude.{◌≡◌, List, true, false, not, ℕ, ◌+◌, ◌-◌, ◌*◌, ◌≤◌, ◌<◌, length, Ok, MatchResult};
 ghost use Rattle.block.specs.Sizes.{block_size, page_size, sequence_end};
 ghost use Rattle.block.specs.Legal.{slot_of};
 ghost use Rattle.block.specs.Slot.{judged};
@@ -14,23 +14,11 @@ ghost use Rattle.promises.specs.Newest.{is_damaged};
 ghost use Rattle.table.specs.Table.{Applies, AppliesAll};
 ghost use Rattle.table.specs.Seats.{seated};
 ghost use Rattle.recovery.specs.Log.{header_of, block_of, update_of, updates_from, Placed, Legal};
-ghost use Rattle.recovery.specs.Slots.{sequence_of, is_empty, judged_damaged, Scanned, Lowest};
-ghost use Rattle.recovery.specs.Walking.{
-  walk_of,
-  stage_refused,
-  stage_half,
-  stage_closed,
-  updated,
-  Cleans,
-  Commits,
-  span_fits,
-  tested,
-  Ready,
-  Turns,
-  Walks,
-};
+ghost use Rattle.recovery.specs.Slots.{sequence_of, Scanned, Lowest};
+ghost use Rattle.recovery.specs.Walking.{walk_of, out_of_order_at, updated, Cleans, Commits, span_fits, Ready, Turns, Walks};
 
 use block::{Block, Judged, Kind};
+use promises::{Refusal, Stop};
 
 // What the slots tell: the largest valid sequence, 0 where no slot is valid, and whether all are unused.
 #[derive(Clone, Copy)]
@@ -39,12 +27,10 @@ pub struct Scan {
     pub unused: bool,
 }
 
-// Where a walk stands: the number of its refusal, 0 for none, and the place; the last committed ticket; a half group's first block and
-// how many updates it has, 0 and 0 for none. The dirty pages are in the seats.
+// Where a walk stands: the last committed ticket; a half group's first block and how many updates it has, 0 and 0 for none. The dirty pages
+// are in the seats.
 #[derive(Clone, Copy)]
 pub struct Stage {
-    pub refusal: u64,
-    pub place: u64,
     pub ticket: u64,
     pub start: u64,
     pub count: usize,
@@ -55,39 +41,9 @@ fn sequence_of(judged: Judged) -> u64
     ensures { result ≡ sequence_of judged }
 {
     match judged {
-        Judged::Unused => 0,
-        Judged::Damaged => 0,
         Judged::Valid(block) => block.sequence,
+        _ => 0,
     }
-}
-
-// Whether a slot is unused.
-fn is_empty(judged: Judged) -> bool
-    ensures { result ≡ is_empty judged }
-{
-    match judged {
-        Judged::Unused => true,
-        Judged::Damaged => false,
-        Judged::Valid(block) => false,
-    }
-}
-
-// Whether a slot is damaged.
-fn is_damaged(judged: Judged) -> bool
-    ensures { result ≡ judged_damaged judged }
-{
-    match judged {
-        Judged::Unused => false,
-        Judged::Damaged => true,
-        Judged::Valid(block) => false,
-    }
-}
-
-// The larger of two sequences.
-fn larger(a: u64, b: u64) -> u64
-    ensures { result ≡ max a b }
-{
-    if a < b { b } else { a }
 }
 
 // Judges every slot, once. Its sequence goes to the list of sequences.
@@ -98,15 +54,12 @@ pub fn judge_all(log: &[u8], pages: usize, sequences: &mut [u64]) -> Scan
     let slots = sequences.len();
     let mut newest = 0;
     let mut unused = true;
-    let mut i = 0;
-    while i < slots {
+    for (i, sequence) in sequences.iter_mut().enumerate() {
         let at = i * Block::SIZE;
         let judged = block::judge(&log[at..at + Block::SIZE], slots as u64, pages, i as u64);
-        let sequence = sequence_of(judged);
-        sequences[i] = sequence;
-        newest = larger(sequence, newest);
-        unused = unused & is_empty(judged);
-        i += 1;
+        *sequence = sequence_of(judged);
+        newest = newest.max(*sequence);
+        unused &= matches!(judged, Judged::Unused);
     }
     Scan { newest, unused }
 }
@@ -128,16 +81,14 @@ pub fn missing(sequences: &[u64], first: u64, last: u64) -> u64
     ensures { Lowest sequences.now first last result }
 {
     let slots = sequences.len();
-    let mut s = first;
     let mut slot = (first % slots as u64) as usize;
-    while s <= last {
+    for s in first..=last {
         if sequences[slot] != s {
             return s;
         }
-        s += 1;
         slot = slot_after(slot, slots);
     }
-    s
+    last + 1
 }
 
 // The bytes of a slot: a part of the log.
@@ -154,7 +105,7 @@ pub fn slot_damaged(bytes: &[u8], slots: u64, pages: usize, slot: u64) -> bool
     requires { (length bytes.now ≡ block_size) × (0 < slots) }
     ensures { result ≡ is_damaged (slot_in (judged slots pages slot bytes.now) bytes.now) }
 {
-    is_damaged(block::judge(bytes, slots, pages, slot))
+    matches!(block::judge(bytes, slots, pages, slot), Judged::Damaged)
 }
 
 // Whether the slot that a sequence goes to is damaged.
@@ -192,19 +143,17 @@ fn apply_stored(
 {
     let stored = slot_bytes(log, slot);
     let block = block::header(stored);
-    let kind = block.kind;
-    match kind {
+    match block.kind {
         Kind::Update {
-            index,
             page,
             offset,
             length,
+            ..
         } => {
             let bytes = block::new_bytes(stored, length);
             table::seats::apply(seats, home, frames, page, offset, bytes, group)
         }
-        Kind::Commit { updates } => true,
-        Kind::Clean { page } => true,
+        _ => true,
     }
 }
 
@@ -221,72 +170,67 @@ pub fn apply_group(
     ensures { AppliesAll (seated false seats.old) home.now frames.old (updates_from log.now start count) start (seated (not result) seats.new) frames.new }
 {
     let slots = log.len() / Block::SIZE;
-    let mut fits = true;
-    let mut i = 0;
     let mut slot = (start % slots as u64) as usize;
-    while fits & (i < count) {
-        fits = apply_stored(seats, log, home, frames, start + i as u64, slot, start);
-        i += 1;
+    for i in 0..count {
+        if !apply_stored(seats, log, home, frames, start + i as u64, slot, start) {
+            return false;
+        }
         slot = slot_after(slot, slots);
     }
-    fits
+    true
 }
 
-// The walk refused, at a place.
-pub fn refused(stage: Stage, refusal: u64, place: u64) -> Stage
-    ensures { result ≡ stage_refused stage refusal place }
+// Refusal 8 at a place.
+fn out_of_order(place: u64) -> Stop
+    ensures { result ≡ out_of_order_at place }
 {
-    let mut w = stage;
-    w.refusal = refusal;
-    w.place = place;
-    w
-}
-
-// The walk with a half group of so many updates.
-fn half(stage: Stage, start: u64, count: usize) -> Stage
-    ensures { result ≡ stage_half stage start count }
-{
-    let mut w = stage;
-    w.start = start;
-    w.count = count;
-    w
-}
-
-// The walk without a half group, with this ticket.
-fn closed(stage: Stage, ticket: u64) -> Stage
-    ensures { result ≡ stage_closed stage ticket }
-{
-    let mut w = stage;
-    w.ticket = ticket;
-    w.start = 0;
-    w.count = 0;
-    w
+    Stop {
+        refusal: Refusal::LogOutOfOrder,
+        place,
+    }
 }
 
 // An update is walked over: a new index 1 voids a half group.
-fn walk_update(stage: Stage, sequence: u64, index: usize, ticket: u64) -> Stage
-    requires { (stage.count < sequence_end) × (stage.refusal ≡ 0) }
-    ensures { (seats : List ℕ) → walk_of result seats ≡ updated (walk_of stage seats) sequence index ticket }
+fn walk_update(stage: Stage, sequence: u64, index: usize, ticket: u64) -> Result<Stage, Stop>
+    requires { stage.count < sequence_end }
+    ensures { (seats : List ℕ) → walk_of result seats ≡ updated (walk_of (Ok stage) seats) sequence index ticket }
 {
     if !order::update_fits(index, ticket, stage.count, stage.ticket) {
-        return refused(stage, 8, sequence);
+        return Err(out_of_order(sequence));
     }
     if index == 1 {
-        return half(stage, sequence, 1);
+        return Ok(Stage {
+            start: sequence,
+            count: 1,
+            ..stage
+        });
     }
-    half(stage, stage.start, index)
+    Ok(Stage {
+        count: index,
+        ..stage
+    })
 }
 
 // A clean is walked over: it voids a half group, and its page is dropped.
-fn walk_clean(stage: Stage, seats: &mut [u64], s: u64, page: usize, ticket: u64) -> Stage
-    requires { (length seats.old ≤ 32) × (stage.refusal ≡ 0) }
-    ensures { Cleans (walk_of stage seats.old) s page ticket (walk_of result seats.new) }
+fn walk_clean(
+    stage: Stage,
+    seats: &mut [u64],
+    s: u64,
+    page: usize,
+    ticket: u64,
+) -> Result<Stage, Stop>
+    requires { length seats.old ≤ 32 }
+    ensures { Cleans (walk_of (Ok stage) seats.old) s page ticket (walk_of result seats.new) }
 {
     if !order::clean_fits(ticket, stage.ticket) {
-        return refused(stage, 8, s);
+        return Err(out_of_order(s));
     }
     table::seats::drop_page(seats, page);
-    closed(stage, stage.ticket)
+    Ok(Stage {
+        start: 0,
+        count: 0,
+        ..stage
+    })
 }
 
 // A commit is walked over: its group takes effect.
@@ -299,22 +243,27 @@ fn walk_commit(
     s: u64,
     updates: usize,
     ticket: u64,
-) -> Stage
-    requires { (length seats.old ≤ 32) × (length frames.old ≡ length seats.old * page_size) × (block_size ≤ length log.now) × (pages_in (length home.now) ≤ 4096) × (s < sequence_end) × (stage.refusal ≡ 0) × Ready log.now home.now s (walk_of stage seats.old) }
-    ensures { Commits log.now home.now (walk_of stage seats.old) frames.old s updates ticket (walk_of result seats.new) frames.new }
+) -> Result<Stage, Stop>
+    requires { (length seats.old ≤ 32) × (length frames.old ≡ length seats.old * page_size) × (block_size ≤ length log.now) × (pages_in (length home.now) ≤ 4096) × (s < sequence_end) × Ready log.now home.now s (walk_of (Ok stage) seats.old) }
+    ensures { Commits log.now home.now (walk_of (Ok stage) seats.old) frames.old s updates ticket (walk_of result seats.new) frames.new }
 {
     if !order::commit_fits(updates, ticket, stage.count, stage.ticket) {
-        return refused(stage, 8, s);
+        return Err(out_of_order(s));
     }
-    let fits = apply_group(seats, log, home, frames, stage.start, stage.count);
-    let w = closed(stage, ticket);
-    if !fits {
-        return refused(w, 9, s);
+    if !apply_group(seats, log, home, frames, stage.start, stage.count) {
+        return Err(Stop {
+            refusal: Refusal::TooFewFrames,
+            place: s,
+        });
     }
-    w
+    Ok(Stage {
+        ticket,
+        start: 0,
+        count: 0,
+    })
 }
 
-// The block of a sequence, in its slot, is walked over. Nothing happens once refused.
+// The block of a sequence, in its slot, is walked over.
 fn turn(
     stage: Stage,
     seats: &mut [u64],
@@ -323,23 +272,14 @@ fn turn(
     frames: &mut [u8],
     s: u64,
     slot: usize,
-) -> Stage
-    requires { (length seats.old ≤ 32) × (length frames.old ≡ length seats.old * page_size) × (block_size ≤ length log.now) × (pages_in (length home.now) ≤ 4096) × (s < sequence_end) × (slot ≡ slot_of (slots_in (length log.now)) s) × Legal log.now home.now s × (stage.refusal ≡ 0 → Ready log.now home.now s (walk_of stage seats.old)) }
-    ensures { Turns log.now home.now s (block_of log.now s).kind (block_of log.now s).ticket (walk_of stage seats.old) frames.old (walk_of result seats.new) frames.new }
+) -> Result<Stage, Stop>
+    requires { (length seats.old ≤ 32) × (length frames.old ≡ length seats.old * page_size) × (block_size ≤ length log.now) × (pages_in (length home.now) ≤ 4096) × (s < sequence_end) × (slot ≡ slot_of (slots_in (length log.now)) s) × Legal log.now home.now s × Ready log.now home.now s (walk_of (Ok stage) seats.old) }
+    ensures { Turns log.now home.now s (block_of log.now s).kind (block_of log.now s).ticket (walk_of (Ok stage) seats.old) frames.old (walk_of result seats.new) frames.new }
 {
-    if stage.refusal != 0 {
-        return stage;
-    }
     let stored = slot_bytes(log, slot);
     let block = block::header(stored);
-    let kind = block.kind;
-    match kind {
-        Kind::Update {
-            index,
-            page,
-            offset,
-            length,
-        } => walk_update(stage, s, index, block.ticket),
+    match block.kind {
+        Kind::Update { index, .. } => walk_update(stage, s, index, block.ticket),
         Kind::Commit { updates } => walk_commit(
             stage,
             seats,
@@ -356,31 +296,28 @@ fn turn(
 
 // The blocks from first to last are walked over. The slot goes round beside the sequence.
 pub fn walk_all(
-    stage: Stage,
+    mut stage: Stage,
     seats: &mut [u64],
     log: &[u8],
     home: &[u8],
     frames: &mut [u8],
     first: u64,
     last: u64,
-) -> Stage
-    requires { (length seats.old ≤ 32) × (length frames.old ≡ length seats.old * page_size) × (block_size ≤ length log.now) × (pages_in (length home.now) ≤ 4096) × (first ≤ last + 1) × (last < sequence_end) × ((s : ℕ) → first ≤ s → s ≤ last → Legal log.now home.now s) × (stage.refusal ≡ 0 → Ready log.now home.now first (walk_of stage seats.old)) }
-    ensures { Walks log.now home.now first last (walk_of stage seats.old) frames.old (walk_of result seats.new) frames.new }
+) -> Result<Stage, Stop>
+    requires { (length seats.old ≤ 32) × (length frames.old ≡ length seats.old * page_size) × (block_size ≤ length log.now) × (pages_in (length home.now) ≤ 4096) × (first ≤ last + 1) × (last < sequence_end) × ((s : ℕ) → first ≤ s → s ≤ last → Legal log.now home.now s) × Ready log.now home.now first (walk_of (Ok stage) seats.old) }
+    ensures { Walks log.now home.now first last (walk_of (Ok stage) seats.old) frames.old (walk_of result seats.new) frames.new }
 {
     let slots = log.len() / Block::SIZE;
-    let mut w = stage;
-    let mut s = first;
     let mut slot = (first % slots as u64) as usize;
-    while s <= last {
-        w = turn(w, seats, log, home, frames, s, slot);
-        s += 1;
+    for s in first..=last {
+        stage = turn(stage, seats, log, home, frames, s, slot)?;
         slot = slot_after(slot, slots);
     }
-    w
+    Ok(stage)
 }
 
 // Whether H + D is at most the count of slots; an own number, a half group's start or next, counts beside the first groups.
-pub fn span_fits(seats: &[u64], slots: usize, next: u64, own: u64) -> bool
+fn span_fits(seats: &[u64], slots: usize, next: u64, own: u64) -> bool
     requires { (length seats.now ≤ 32) × (slots ≤ 1024) × (next ≤ sequence_end) × (own ≤ next) }
     ensures { result ≡ span_fits (seated false seats.now) slots next own }
 {
@@ -389,17 +326,13 @@ pub fn span_fits(seats: &[u64], slots: usize, next: u64, own: u64) -> bool
     held + dirty <= slots as u64
 }
 
-// The last test: H + D above the count of slots is 8 at the newest block.
-pub fn last_test(stage: Stage, seats: &[u64], slots: usize, last: u64) -> Stage
-    requires { (length seats.now ≤ 32) × (slots ≤ 1024) × (last < sequence_end) }
-    ensures { walk_of result seats.now ≡ tested slots last (walk_of stage seats.now) }
+// The last test: H + D above the count of slots is 8 at the newest block; an own number counts as in `span_fits`.
+pub fn last_test(seats: &[u64], slots: usize, last: u64, own: u64) -> Result<(), Stop>
+    requires { (length seats.now ≤ 32) × (slots ≤ 1024) × (last < sequence_end) × (own ≤ last + 1) }
+    ensures { MatchResult result (λ unit. span_fits (seated false seats.now) slots (last + 1) own ≡ true) (λ stop. (span_fits (seated false seats.now) slots (last + 1) own ≡ false) × (stop ≡ out_of_order_at last)) }
 {
-    if stage.refusal != 0 {
-        return stage;
+    if !span_fits(seats, slots, last + 1, own) {
+        return Err(out_of_order(last));
     }
-    let next = last + 1;
-    if !span_fits(seats, slots, next, next) {
-        return refused(stage, 8, last);
-    }
-    stage
+    Ok(())
 }

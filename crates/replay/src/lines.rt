@@ -1,290 +1,203 @@
-// Running one line: the call that it asks for, over what is lent.
-use crate::desk::{Desk, Lengths, first};
-use crate::{desk, saying};
-use promises::State;
+// Running one line: the call that it asks for, over what is lent, and the line that answers.
+use crate::desk::{Desk, Lengths, front, front_mut};
+use promises::{Logged, Refusal};
 use script::Command;
+use std::io;
 
-// Before the areas are asked for, a line that does not ask for them is bad.
-fn allowed(command: Command, ready: bool) -> Command {
-    if ready {
-        return command;
+// The line that answers a bad one.
+pub fn bad(rt: &impl Print) -> io::Result<()> {
+    println!(rt; "bad")
+}
+
+// The line of a refusal.
+fn refused(rt: &impl Print, refusal: Refusal) -> io::Result<()> {
+    println!(rt; "refused {}", refusal.number())
+}
+
+// The line of Format, Begin, Describe or Clean step, which say differently that they are done.
+fn answered(rt: &impl Print, answer: Result<(), Refusal>, done: &str) -> io::Result<()> {
+    match answer {
+        Ok(()) => println!(rt; "{done}"),
+        Err(refusal) => refused(rt, refusal),
     }
-    match command {
-        Command::Areas {
-            slots,
-            pages,
-            frames,
-        } => Command::Areas {
-            slots,
-            pages,
-            frames,
-        },
-        _ => Command::Bad,
-    }
 }
 
-// Areas of so many slots, pages and frames, as the language fills them.
-fn areas(
-    slots: u64,
-    pages: u64,
-    count: u64,
-    log: &mut [u8],
-    home: &mut [u8],
-    frames: &mut [u8],
-    staging: &mut [u8],
-) -> Desk {
-    script::fill(log, 255);
-    script::home_bytes(home);
-    script::fill(frames, 170);
-    script::fill(staging, 170);
-    saying::say(b"areas\n");
-    desk::sized(slots as usize, pages as usize, count as usize)
+fn format(rt: &impl Print, desk: &mut Desk) -> io::Result<()> {
+    let answer = store::format(front_mut(&mut desk.log, desk.lent.log));
+    answered(rt, answer, "ok")
 }
 
-// Format.
-fn format(desk: Desk, log: &mut [u8]) -> Desk {
-    let lent = desk.lent;
-    let count = first(log, lent.log);
-    let answer = store::format(&mut log[..count]);
-    saying::answered(answer, b"ok\n");
-    desk
-}
-
-// Begin.
-fn begin(desk: Desk, u: u64) -> Desk {
-    let state = desk.state;
-    let outcome = store::begin(state, u as usize);
-    let answer = outcome.answer;
-    let after = outcome.state;
-    saying::answered(answer, b"ok\n");
-    desk::with_state(desk, after)
+fn begin(rt: &impl Print, desk: &mut Desk, u: u64) -> io::Result<()> {
+    let outcome = store::begin(desk.state, u as usize);
+    desk.state = outcome.state;
+    answered(rt, outcome.answer, "ok")
 }
 
 // Describe of so many bytes that the seed gives.
 fn describe(
-    desk: Desk,
-    staging: &mut [u8],
+    rt: &impl Print,
+    desk: &mut Desk,
     page: u64,
     offset: u64,
     length: u64,
     seed: u64,
-) -> Desk {
-    let mut bytes = [0u8; 512];
+) -> io::Result<()> {
+    let mut bytes = [0; 512];
     script::describe_bytes(&mut bytes, seed);
-    let long = first(&bytes, length as usize);
-    let state = desk.state;
-    let lent = desk.lent;
-    let count = first(staging, lent.staging);
     let outcome = store::describe(
-        state,
-        &mut staging[..count],
+        desk.state,
+        front_mut(&mut desk.staging, desk.lent.staging),
         page as usize,
         offset as usize,
-        &bytes[..long],
+        front(&bytes, length as usize),
     );
-    let answer = outcome.answer;
-    let after = outcome.state;
-    saying::answered(answer, b"ok\n");
-    desk::with_state(desk, after)
+    desk.state = outcome.state;
+    answered(rt, outcome.answer, "ok")
 }
 
-// Open.
-fn open(desk: Desk, log: &[u8], home: &[u8], frames: &mut [u8], staging: &[u8]) -> Desk {
-    let lent = desk.lent;
-    let slots = first(log, lent.log);
-    let pages = first(home, lent.home);
-    let held = first(frames, lent.frames);
-    let staged = first(staging, lent.staging);
+fn open(rt: &impl Print, desk: &mut Desk) -> io::Result<()> {
     let outcome = store::open(
-        &log[..slots],
-        &home[..pages],
-        &mut frames[..held],
-        &staging[..staged],
+        front(&desk.log, desk.lent.log),
+        front(&desk.home, desk.lent.home),
+        front_mut(&mut desk.frames, desk.lent.frames),
+        front(&desk.staging, desk.lent.staging),
     );
-    let answer = outcome.answer;
-    let after = outcome.state;
-    saying::opened(answer, after.next);
-    desk::with_state(desk, after)
+    desk.state = outcome.state;
+    match outcome.answer {
+        Ok(ticket) => println!(rt; "opened {ticket} next {}", desk.state.next),
+        Err(stop) => println!(rt; "refused {} place {}", stop.refusal.number(), stop.place),
+    }
 }
 
-// End.
-fn end(desk: Desk) -> Desk {
-    let state = desk.state;
-    let outcome = store::end(state);
-    let answer = outcome.answer;
-    let after = outcome.state;
-    saying::ended(answer);
-    desk::with_state(desk, after)
+fn end(rt: &impl Print, desk: &mut Desk) -> io::Result<()> {
+    let outcome = store::end(desk.state);
+    desk.state = outcome.state;
+    match outcome.answer {
+        Ok(ticket) => println!(rt; "ticket {ticket}"),
+        Err(refusal) => refused(rt, refusal),
+    }
 }
 
-// Log step.
-fn log_step(desk: Desk, log: &mut [u8], home: &[u8], frames: &mut [u8], staging: &[u8]) -> Desk {
-    let state = desk.state;
-    let lent = desk.lent;
-    let slots = first(log, lent.log);
-    let pages = first(home, lent.home);
-    let held = first(frames, lent.frames);
-    let staged = first(staging, lent.staging);
+fn log_step(rt: &impl Print, desk: &mut Desk) -> io::Result<()> {
     let outcome = store::log_step(
-        state,
-        &mut log[..slots],
-        &home[..pages],
-        &mut frames[..held],
-        &staging[..staged],
+        desk.state,
+        front_mut(&mut desk.log, desk.lent.log),
+        front(&desk.home, desk.lent.home),
+        front_mut(&mut desk.frames, desk.lent.frames),
+        front(&desk.staging, desk.lent.staging),
     );
-    let answer = outcome.answer;
-    let after = outcome.state;
-    saying::logged(answer);
-    desk::with_state(desk, after)
+    desk.state = outcome.state;
+    match outcome.answer {
+        Ok(Logged::Stored) => println!(rt; "stored"),
+        Ok(Logged::Settled(ticket)) => println!(rt; "settled {ticket}"),
+        Err(refusal) => refused(rt, refusal),
+    }
 }
 
-// Clean step.
-fn clean_step(desk: Desk, log: &mut [u8], home: &mut [u8], frames: &[u8]) -> Desk {
-    let state = desk.state;
-    let lent = desk.lent;
-    let slots = first(log, lent.log);
-    let pages = first(home, lent.home);
-    let held = first(frames, lent.frames);
+fn clean_step(rt: &impl Print, desk: &mut Desk) -> io::Result<()> {
     let outcome = store::clean_step(
-        state,
-        &mut log[..slots],
-        &mut home[..pages],
-        &frames[..held],
+        desk.state,
+        front_mut(&mut desk.log, desk.lent.log),
+        front_mut(&mut desk.home, desk.lent.home),
+        front(&desk.frames, desk.lent.frames),
     );
-    let answer = outcome.answer;
-    let after = outcome.state;
-    saying::answered(answer, b"stored\n");
-    desk::with_state(desk, after)
+    desk.state = outcome.state;
+    answered(rt, outcome.answer, "stored")
 }
 
 // Read: the digest of the page.
-fn read<'a>(desk: Desk, home: &'a [u8], frames: &'a [u8], page: u64) -> Desk {
-    let state = desk.state;
-    let lent = desk.lent;
-    let pages = first(home, lent.home);
-    let held = first(frames, lent.frames);
-    let mut refusal = 0;
-    let bytes = store::read(
-        state,
-        &home[..pages],
-        &frames[..held],
+fn read(rt: &impl Print, desk: &Desk, page: u64) -> io::Result<()> {
+    let page = store::read(
+        desk.state,
+        front(&desk.home, desk.lent.home),
+        front(&desk.frames, desk.lent.frames),
         page as usize,
-        &mut refusal,
     );
-    if refusal == 0 {
-        saying::numbered(b"page ", script::digest(bytes));
-    } else {
-        saying::numbered(b"refused ", refusal);
+    match page.answer {
+        Ok(()) => println!(rt; "page {}", script::digest(page.bytes)),
+        Err(refusal) => refused(rt, refusal),
     }
-    desk
 }
 
-// Settled.
-fn settled(desk: Desk, ticket: u64) -> Desk {
-    let state = desk.state;
-    saying::standing(store::settled(state, ticket));
-    desk
-}
-
-// A cut: the state is gone, and what frames and staging held.
-fn cut(desk: Desk, frames: &mut [u8], staging: &mut [u8]) -> Desk {
-    script::fill(frames, 85);
-    script::fill(staging, 85);
-    saying::say(b"cut\n");
-    desk::with_state(desk, State::all_zero())
-}
-
-// From now on so many bytes of each area are lent.
-fn lend(desk: Desk, log: u64, home: u64, frames: u64, staging: u64) -> Desk {
-    saying::say(b"lent\n");
-    desk::with_lent(
-        desk,
-        Lengths {
-            log: log as usize,
-            home: home as usize,
-            frames: frames as usize,
-            staging: staging as usize,
-        },
-    )
+fn settled(rt: &impl Print, desk: &Desk, ticket: u64) -> io::Result<()> {
+    match store::settled(desk.state, ticket) {
+        Ok(true) => println!(rt; "yes"),
+        Ok(false) => println!(rt; "no"),
+        Err(refusal) => refused(rt, refusal),
+    }
 }
 
 // A byte of the log becomes another, if there is such a byte.
-fn poke(desk: Desk, log: &mut [u8], place: u64, value: u64) -> Desk {
-    let whole = desk.whole;
-    let index = place as usize;
-    if index < first(log, whole.log) {
-        log[index] = (value % 256) as u8;
-        saying::say(b"poked\n");
-    } else {
-        saying::bad();
+fn poke(rt: &impl Print, desk: &mut Desk, place: u64, value: u64) -> io::Result<()> {
+    let log = front_mut(&mut desk.log, desk.whole.log);
+    let place = place as usize;
+    if log.len() <= place {
+        return bad(rt);
     }
-    desk
-}
-
-// The state's next sequence becomes another.
-fn next(desk: Desk, sequence: u64) -> Desk {
-    let state = desk.state;
-    saying::say(b"next\n");
-    desk::with_state(desk, desk::with_next(state, sequence))
+    log[place] = (value % 256) as u8;
+    println!(rt; "poked")
 }
 
 // The digests of the whole log and of the whole home.
-fn digests(desk: Desk, log: &[u8], home: &[u8]) -> Desk {
-    let whole = desk.whole;
-    let slots = first(log, whole.log);
-    let pages = first(home, whole.home);
-    let one = script::digest(&log[..slots]);
-    let other = script::digest(&home[..pages]);
-    saying::numbered_twice(b"log ", one, b" home ", other);
-    desk
+fn digests(rt: &impl Print, desk: &Desk) -> io::Result<()> {
+    let log = script::digest(front(&desk.log, desk.whole.log));
+    let home = script::digest(front(&desk.home, desk.whole.home));
+    println!(rt; "log {log} home {home}")
 }
 
-// A line that is no command.
-fn bad(desk: Desk) -> Desk {
-    saying::bad();
-    desk
-}
-
-// Runs a command and prints its line.
-pub fn run(
-    command: Command,
-    desk: Desk,
-    log: &mut [u8],
-    home: &mut [u8],
-    frames: &mut [u8],
-    staging: &mut [u8],
-) -> Desk {
-    let command = allowed(command, desk.ready);
+// Runs a line's command and prints its line. Before the areas are asked for, a line that does not ask for them is bad.
+pub fn run(rt: &impl Print, command: Option<Command>, desk: &mut Desk) -> io::Result<()> {
+    let ready = desk.ready;
+    let Some(command) = command.filter(|command| ready || matches!(command, Command::Areas { .. }))
+    else {
+        return bad(rt);
+    };
     match command {
         Command::Areas {
             slots,
             pages,
-            frames: count,
-        } => areas(slots, pages, count, log, home, frames, staging),
-        Command::Format => format(desk, log),
-        Command::Begin(u) => begin(desk, u),
+            frames,
+        } => {
+            desk.make_areas(slots as usize, pages as usize, frames as usize);
+            println!(rt; "areas")
+        }
+        Command::Format => format(rt, desk),
+        Command::Begin(u) => begin(rt, desk, u),
         Command::Describe {
             page,
             offset,
             length,
             seed,
-        } => describe(desk, staging, page, offset, length, seed),
-        Command::Open => open(desk, log, home, frames, staging),
-        Command::End => end(desk),
-        Command::LogStep => log_step(desk, log, home, frames, staging),
-        Command::CleanStep => clean_step(desk, log, home, frames),
-        Command::Read(page) => read(desk, home, frames, page),
-        Command::Settled(ticket) => settled(desk, ticket),
-        Command::Cut => cut(desk, frames, staging),
+        } => describe(rt, desk, page, offset, length, seed),
+        Command::Open => open(rt, desk),
+        Command::End => end(rt, desk),
+        Command::LogStep => log_step(rt, desk),
+        Command::CleanStep => clean_step(rt, desk),
+        Command::Read(page) => read(rt, desk, page),
+        Command::Settled(ticket) => settled(rt, desk, ticket),
+        Command::Cut => {
+            desk.cut();
+            println!(rt; "cut")
+        }
         Command::Lend {
             log,
             home,
             frames,
             staging,
-        } => lend(desk, log, home, frames, staging),
-        Command::Poke { place, value } => poke(desk, log, place, value),
-        Command::Next(sequence) => next(desk, sequence),
-        Command::Digests => digests(desk, log, home),
-        Command::Bad => bad(desk),
+        } => {
+            desk.lend(Lengths {
+                log: log as usize,
+                home: home as usize,
+                frames: frames as usize,
+                staging: staging as usize,
+            });
+            println!(rt; "lent")
+        }
+        Command::Poke { place, value } => poke(rt, desk, place, value),
+        Command::Next(sequence) => {
+            desk.state.next = sequence;
+            println!(rt; "next")
+        }
+        Command::Digests => digests(rt, desk),
     }
 }

@@ -15,7 +15,10 @@ use Rattle.promises.specs.declared.Dirty.{Dirty}
 use Rattle.promises.specs.declared.Cleaning.{Cleaning}
 use Rattle.promises.specs.declared.Cleaning.TheVariants.{Idle, First, Second, Third}
 use Rattle.promises.specs.declared.Fed.TheVariants.{NotYet}
-use Rattle.promises.specs.declared.FeedOutcome.{FeedOutcome}
+use Rattle.std.specs.Prelude.{Ok}
+use Rattle.promises.specs.declared.Outcome.{Outcome}
+use Rattle.promises.specs.declared.Fed.{Fed}
+use Rattle.promises.specs.declared.Stop.{Stop}
 use Rattle.promises.specs.Areas.{page_at, first_half, second_half, with_first_half, with_second_half, with_slot}
 use Rattle.promises.specs.Answers.{fed_answered}
 use Rattle.promises.specs.Blocks.{Kind, clean, LogBlock, slots_of}
@@ -178,7 +181,7 @@ module _ (s : State) (log home frames bytes : List ℕ) (page : ℕ) (x : LogBlo
 
   -- taken, with these entries
   feeds-cleaned : feeding s log home frames bytes ≡ takes x → (dirty : List Dirty) → Holds (table_with s dirty) frames (without page (dirty_of s frames))
-      → dirty ≡ freed page s.dirty → (r : FeedOutcome) (log' : List ℕ) → r ≡ taken_with s s.ticket dirty 0
+      → dirty ≡ freed page s.dirty → (r : Outcome Fed Stop) (log' : List ℕ) → r ≡ taken_with s s.ticket dirty 0
       → log' ≡ with_slot log (slot_of s.slots s.next) bytes → Feeds s log home frames bytes r log' home frames
   feeds-cleaned t dirty holds d r log' i l =
       feeds-by s log home frames bytes x t dirty frames
@@ -191,7 +194,7 @@ module _ (s : State) (log home frames bytes : List ℕ) (page : ℕ) (x : LogBlo
     pub takes-gone : s.frames ≤ frame → feeding s log home frames bytes ≡ takes x
     takes-gone h = e ∙ ap (λ (f : Found). clean_found s.cleaning page f x) (not-dirty page s.frames frame frames s.dirty held h)
 
-    pub feeds-gone : s.frames ≤ frame → (r : FeedOutcome) (log' : List ℕ) → r ≡ taken_with s s.ticket s.dirty 0
+    pub feeds-gone : s.frames ≤ frame → (r : Outcome Fed Stop) (log' : List ℕ) → r ≡ taken_with s s.ticket s.dirty 0
         → log' ≡ with_slot log (slot_of s.slots s.next) bytes → Feeds s log home frames bytes r log' home frames
     feeds-gone h r log' i l =
         feeds-cleaned (takes-gone h) s.dirty
@@ -234,7 +237,7 @@ module _ (s : State) (log home frames bytes : List ℕ) (page : ℕ) (x : LogBlo
       pub takes-third : made_of s.cleaning page ≡ 2 → feeding s log home frames bytes ≡ takes x
       takes-third m = staged ∙ stage-two s.cleaning page there x m
 
-      pub feeds-third : made_of s.cleaning page ≡ 2 → length s.dirty ≡ 32 → (r : FeedOutcome) (log' : List ℕ)
+      pub feeds-third : made_of s.cleaning page ≡ 2 → length s.dirty ≡ 32 → (r : Outcome Fed Stop) (log' : List ℕ)
           → r ≡ taken_with s s.ticket (set s.dirty frame free) 0
           → log' ≡ with_slot log (slot_of s.slots s.next) bytes → Feeds s log home frames bytes r log' home frames
       feeds-third m long r log' i l =
@@ -246,7 +249,7 @@ module _ (s : State) (log home frames bytes : List ℕ) (page : ℕ) (x : LogBlo
       named : member page (dirty_numbers s.dirty) ≡ true
       named = held-named (table_of s) frames (dirty_of s frames) (sound-holds-as true s frames fits.is_sound) page there found
 
-      pub feeds-half-two : made_of s.cleaning page ≡ 1 → (r : FeedOutcome) (home' : List ℕ) → r.answer ≡ NotYet → r.state ≡ set_cleaning s (Third entry.page)
+      pub feeds-half-two : made_of s.cleaning page ≡ 1 → (r : Outcome Fed Stop) (home' : List ℕ) → r.answer ≡ Ok NotYet → r.state ≡ set_cleaning s (Third entry.page)
           → home' ≡ with_second_half home entry.page (second_half (page_at frames frame)) → Feeds s log home frames bytes r log home' frames
       feeds-half-two m r home' a i g =
           let st : r.state ≡ set_cleaning s (Third page) = i ∙ ap (λ (p : ℕ). set_cleaning s (Third p)) page-is in
@@ -260,7 +263,7 @@ module _ (s : State) (log home frames bytes : List ℕ) (page : ℕ) (x : LogBlo
             stays_sound = ap copy_sound st ∙ sound-halved s (Third page) fits.is_sound named;
           })
 
-      pub feeds-half-one : (made_of s.cleaning page ≡ 2 → ⊥) → (made_of s.cleaning page ≡ 1 → ⊥) → (r : FeedOutcome) (home' : List ℕ) → r.answer ≡ NotYet
+      pub feeds-half-one : (made_of s.cleaning page ≡ 2 → ⊥) → (made_of s.cleaning page ≡ 1 → ⊥) → (r : Outcome Fed Stop) (home' : List ℕ) → r.answer ≡ Ok NotYet
           → r.state ≡ set_cleaning s (Second entry.page) → home' ≡ with_first_half home entry.page (first_half (page_at frames frame))
           → Feeds s log home frames bytes r log home' frames
       feeds-half-one n m r home' a i g =

@@ -11,7 +11,9 @@ use borrow.Author.Tests.{eq-eqb, ne_eqb, leb-true}
 use Rattle.block.specs.Legal.{slot_of}
 use Rattle.promises.specs.declared.State.{State}
 use Rattle.promises.specs.declared.Dirty.{Dirty}
-use Rattle.promises.specs.declared.FeedOutcome.{FeedOutcome}
+use Rattle.promises.specs.declared.Outcome.{Outcome}
+use Rattle.promises.specs.declared.Fed.{Fed}
+use Rattle.promises.specs.declared.Stop.{Stop}
 use Rattle.promises.specs.Areas.{page_at, with_slot}
 use Rattle.promises.specs.Updates.{Update}
 use Rattle.promises.specs.Blocks.{Kind, update, commit, LogBlock, slots_of}
@@ -62,7 +64,7 @@ module _ (s : State) (log home frames bytes : List ℕ) (x : LogBlock) (e : feed
   ticket-small = omega (arith, sound₂.ticket, small)
 
   -- AN UPDATE
-  pub feeds-update : (i : ℕ) (u : Update) → x.kind ≡ update i u → (r : FeedOutcome) (log' : List ℕ) → r ≡ taken_with s s.ticket s.dirty i
+  pub feeds-update : (i : ℕ) (u : Update) → x.kind ≡ update i u → (r : Outcome Fed Stop) (log' : List ℕ) → r ≡ taken_with s s.ticket s.dirty i
       → log' ≡ with_slot log (slot_of s.slots s.next) bytes → Feeds s log home frames bytes r log' home frames
   feeds-update i u k r log' j l =
       let w : Updated s.ticket (dirty_of s frames) i (after s log home frames x) =
@@ -111,7 +113,7 @@ module _ (s : State) (log home frames bytes : List ℕ) (x : LogBlock) (e : feed
         (leb-true (length (apply_all from.start (page_at home) from.group (dirty_of s frames))) s.frames
         (subst (λ (c : Kind). framed s.frames (page_at home) c from ≡ true) k passes.few)))
 
-    pub feeds-commit : length s.dirty ≡ 32 → (dirty : List Dirty) (frames' : List ℕ) → Closes s log home frames dirty frames' → (r : FeedOutcome) (log' : List ℕ)
+    pub feeds-commit : length s.dirty ≡ 32 → (dirty : List Dirty) (frames' : List ℕ) → Closes s log home frames dirty frames' → (r : Outcome Fed Stop) (log' : List ℕ)
         → r ≡ taken_with s (s.ticket + 1) dirty 0 → log' ≡ with_slot log (slot_of s.slots s.next) bytes → Feeds s log home frames bytes r log' home frames'
     feeds-commit long dirty frames' closed r log' j l =
         feeds-by s log home frames bytes x e dirty frames'

@@ -18,7 +18,9 @@ use Rattle.block.proofs.Facts.{Facts, facts}
 use Rattle.block.proofs.ReadBack as format
 use Rattle.promises.specs.declared.State.{State}
 use Rattle.promises.specs.declared.Dirty.{Dirty}
-use Rattle.promises.specs.declared.FeedOutcome.{FeedOutcome}
+use Rattle.promises.specs.declared.Outcome.{Outcome}
+use Rattle.promises.specs.declared.Fed.{Fed}
+use Rattle.promises.specs.declared.Stop.{Stop}
 use Rattle.promises.specs.Areas.{page_at, with_slot}
 use Rattle.promises.specs.Updates.{Update}
 use Rattle.promises.specs.Blocks.{Kind, update, commit, clean, LogBlock, unused, damaged, valid, slot_in, slots_of}
@@ -207,9 +209,9 @@ module _ (s : State) (log home frames bytes : List ℕ) (x : LogBlock) (e : feed
           mark = f.mark;
         })
 
-    pub feeds-by : (r : FeedOutcome) (log' : List ℕ) → r ≡ taken_with s v₁.ticket dirty (length v₁.group) → log' ≡ with_slot log (slot_of s.slots s.next) bytes
+    pub feeds-by : (r : Outcome Fed Stop) (log' : List ℕ) → r ≡ taken_with s v₁.ticket dirty (length v₁.group) → log' ≡ with_slot log (slot_of s.slots s.next) bytes
         → FramesAfter x.kind s.dirty frames dirty frames' → Feeds s log home frames bytes r log' home frames'
     feeds-by r log' i l f =
-        subst (λ (o : FeedOutcome). Feeds s log home frames bytes o log' home frames') (sym i)
+        subst (λ (o : Outcome Fed Stop). Feeds s log home frames bytes o log' home frames') (sym i)
         (feeds-taken s log home frames bytes (taken_with s v₁.ticket dirty (length v₁.group)) log' home frames' x e
         (record { answer_is = refl; log_is = l; home_is = refl; frames_are = f; state_is = refl; stays_sound = sound-taken; dirty_are = holds.looks }))

@@ -1,13 +1,15 @@
 -- What the parts of a copy's feed leave.
 -- Assumes nothing.
-use Rattle.std.specs.Prelude.{ℕ, ◌+◌, ◌≤◌, ◌<◌, ◌≡◌, cond, List, length, get_or, eqb}
+use Rattle.std.specs.Prelude.{Ok, ℕ, ◌+◌, ◌≤◌, ◌<◌, ◌≡◌, cond, List, length, get_or, eqb}
 use Rattle.block.specs.Sizes.{sequence_end}
 use Rattle.promises.specs.declared.State.{State}
 use Rattle.promises.specs.declared.Dirty.{Dirty}
 use Rattle.promises.specs.declared.Cleaning.{Cleaning}
 use Rattle.promises.specs.declared.Cleaning.TheVariants.{Idle, First, Second, Third}
 use Rattle.promises.specs.declared.Fed.TheVariants.{Taken}
-use Rattle.promises.specs.declared.FeedOutcome.{FeedOutcome}
+use Rattle.promises.specs.declared.Outcome.{Outcome}
+use Rattle.promises.specs.declared.Fed.{Fed}
+use Rattle.promises.specs.declared.Stop.{Stop}
 use Rattle.promises.specs.Areas.{page_at, log_length, home_length, frames_length}
 use Rattle.promises.specs.DirtyPages.{apply_all}
 use Rattle.promises.specs.Contents.{dirty_of}
@@ -29,10 +31,10 @@ made_of (Second named) page = names_page named page 1
 made_of (Third named) page = names_page named page 2
 
 -- the block is taken
-abbrev pub taken_with : State → ℕ → List Dirty → ℕ → FeedOutcome
+abbrev pub taken_with : State → ℕ → List Dirty → ℕ → Outcome Fed Stop
 taken_with state ticket dirty stored = record {
   state = set_cleaning (set_stored (set_dirty (set_block state (state.next + 1) ticket) dirty) stored) Idle;
-  answer = Taken;
+  answer = Ok Taken;
 }
 
 -- what the commit of the half group leans on: the copy's sizes, and a group whose updates are in its log

@@ -8,7 +8,6 @@ ghost use Rattle.block.specs.Sizes.{block_size, sequence_end};
 ghost use Rattle.block.specs.Legal.{slot_of};
 ghost use Rattle.block.specs.declared.Kind.TheVariants.{Clean};
 ghost use Rattle.promises.specs.Areas.{log_length, with_slot};
-ghost use Rattle.promises.specs.Answers.{number_of, fed_answered, fed_place_in, refuses};
 ghost use Rattle.promises.specs.Blocks.{clean, kind_in};
 ghost use Rattle.promises.specs.CopyOpen.{OpensCopy};
 ghost use Rattle.promises.specs.Feed.{store_of, feeding, Feeds};
@@ -18,13 +17,13 @@ ghost use Rattle.replica.specs.Taking.{names_page, made_of, taken_with, Closing,
 use block::{Block, Kind};
 use cleaning::Choice;
 use feeding::Decision;
-use promises::{Cleaning, Dirty, Fed, FeedOutcome, OpenOutcome, Refusal, State};
+use promises::{Cleaning, Dirty, Fed, Outcome, State, Stop};
 
 // 1 or 2 stores of this page, if it is the one that a cleaning names.
 fn stores_if(named: u16, page: usize, stores: u64) -> u64
     ensures { result ≡ names_page named page stores }
 {
-    if named as usize == page {
+    if usize::from(named) == page {
         return stores;
     }
     0
@@ -35,8 +34,7 @@ fn stores_made(cleaning: Cleaning, page: usize) -> u64
     ensures { result ≡ made_of cleaning page }
 {
     match cleaning {
-        Cleaning::Idle => 0,
-        Cleaning::First(named) => 0,
+        Cleaning::Idle | Cleaning::First(_) => 0,
         Cleaning::Second(named) => stores_if(named, page, 1),
         Cleaning::Third(named) => stores_if(named, page, 2),
     }
@@ -51,20 +49,21 @@ fn take(
     ticket: u64,
     dirty: [Dirty; 32],
     stored: usize,
-) -> FeedOutcome
+) -> Outcome<Fed, Stop>
     requires { (1 ≤ state.slots) × (state.slots ≤ 1024) × (length log.old ≡ log_length state.slots) × (length bytes.now ≡ block_size) × (state.next < sequence_end) }
     ensures { (result ≡ taken_with state ticket dirty stored) × (log.new ≡ with_slot log.old (slot_of state.slots state.next) bytes.now) }
 {
     stepping::store_bytes(log, state.slots, state.next, bytes);
-    let mut after = state;
-    let next = after.next + 1;
-    after.next = next;
-    after.ticket = ticket;
-    after.dirty = dirty;
-    after.stored = stored;
-    FeedOutcome {
-        state: after.with_cleaning(Cleaning::Idle),
-        answer: Fed::Taken,
+    Outcome {
+        state: State {
+            next: state.next + 1,
+            ticket,
+            dirty,
+            stored,
+            cleaning: Cleaning::Idle,
+            ..state
+        },
+        answer: Ok(Fed::Taken),
     }
 }
 
@@ -97,7 +96,7 @@ fn feed_clean(
     bytes: &[u8],
     fed: Block,
     page: usize,
-) -> FeedOutcome
+) -> Outcome<Fed, Stop>
     requires { (fed.kind ≡ Clean page) × (feeding state log.old home.old frames.now bytes.now ≡ store_of state frames.now (clean page) (block_in fed bytes.now)) }
     ensures { Feeds state log.old home.old frames.now bytes.now result log.new home.new frames.now }
 {
@@ -108,23 +107,22 @@ fn feed_clean(
     }
     let entry = dirty[frame];
     let choice = Choice { frame, entry };
-    let cleaning = state.cleaning;
-    let made = stores_made(cleaning, page);
+    let made = stores_made(state.cleaning, page);
     if made == 2 {
         dirty[frame] = Dirty { page: 0, first: 0 };
         return take(state, log, bytes, state.ticket, dirty, 0);
     }
     if made == 1 {
         cleaning::store_second(home, frames, choice);
-        return FeedOutcome {
+        return Outcome {
             state: state.with_cleaning(Cleaning::Third(entry.page)),
-            answer: Fed::NotYet,
+            answer: Ok(Fed::NotYet),
         };
     }
     cleaning::store_first(home, frames, choice);
-    FeedOutcome {
+    Outcome {
         state: state.with_cleaning(Cleaning::Second(entry.page)),
-        answer: Fed::NotYet,
+        answer: Ok(Fed::NotYet),
     }
 }
 
@@ -136,36 +134,17 @@ fn feed_passed(
     frames: &mut [u8],
     bytes: &[u8],
     fed: Block,
-) -> FeedOutcome
+) -> Outcome<Fed, Stop>
     requires { feeding state log.old home.old frames.old bytes.now ≡ store_of state frames.old (kind_in fed.kind bytes.now) (block_in fed bytes.now) }
     ensures { Feeds state log.old home.old frames.old bytes.now result log.new home.new frames.new }
 {
-    let kind = fed.kind;
-    match kind {
-        Kind::Update {
-            index,
-            page,
-            offset,
-            length,
-        } => {
-            let dirty = state.dirty;
-            take(state, log, bytes, state.ticket, dirty, index)
-        }
-        Kind::Commit { updates } => {
+    match fed.kind {
+        Kind::Update { index, .. } => take(state, log, bytes, state.ticket, state.dirty, index),
+        Kind::Commit { .. } => {
             let dirty = close_group(state, log, home, frames);
             take(state, log, bytes, state.ticket + 1, dirty, 0)
         }
         Kind::Clean { page } => feed_clean(state, log, home, frames, bytes, fed, page),
-    }
-}
-
-// A refused feed: the state as it was.
-fn refused(state: State, refusal: Refusal, place: u64) -> FeedOutcome
-    ensures { (fed_answered result.answer ≡ refuses (number_of refusal)) × (fed_place_in result.answer ≡ place) × (result.state ≡ state) }
-{
-    FeedOutcome {
-        state,
-        answer: Fed::Refused(refusal, place),
     }
 }
 
@@ -179,7 +158,7 @@ fn refused(state: State, refusal: Refusal, place: u64) -> FeedOutcome
 // group's start counted in the last test. Refused, it gives the all-zero state. After 7, 8 and 9 `frames` is all zero, after 1 as it was.
 //
 // Promise: promises/specs/CopyOpen.antt.
-pub fn open(log: &[u8], home: &[u8], frames: &mut [u8]) -> OpenOutcome
+pub fn open(log: &[u8], home: &[u8], frames: &mut [u8]) -> Outcome<u64, Stop>
     ensures { OpensCopy log.now home.now frames.old result frames.new }
 {
     opening::open_copy(log, home, frames)
@@ -205,22 +184,19 @@ pub fn feed(
     home: &mut [u8],
     frames: &mut [u8],
     block: &[u8],
-) -> FeedOutcome
+) -> Outcome<Fed, Stop>
     ensures { Feeds state log.old home.old frames.old block.now result log.new home.new frames.new }
 {
-    let verdict = soundness::checked_as(state, true);
-    let decision = feeding::decide(verdict.sound, state, log, home.len(), frames.len(), block);
-    match decision {
-        Decision::Bad => refused(state, Refusal::BadBlock, 0),
-        Decision::Ahead => refused(state, Refusal::SequenceAhead, 0),
-        Decision::Stops(number, place) => {
-            let refusal = Refusal::of_number(number);
-            refused(state, refusal, place)
-        }
-        Decision::Had => FeedOutcome {
+    let sound = soundness::checked_as(state, true).is_some();
+    match feeding::decide(sound, state, log, home.len(), frames.len(), block) {
+        Err(stop) => Outcome {
             state,
-            answer: Fed::Had,
+            answer: Err(stop),
         },
-        Decision::Passes(fed) => feed_passed(state, log, home, frames, block, fed),
+        Ok(Decision::Had) => Outcome {
+            state,
+            answer: Ok(Fed::Had),
+        },
+        Ok(Decision::Passes(fed)) => feed_passed(state, log, home, frames, block, fed),
     }
 }

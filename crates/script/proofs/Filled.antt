@@ -1,12 +1,12 @@
 -- Filling an area from the front, each byte by a rule on its index.
 -- Assumes nothing.
-use mathlib.Core.Path.{◌≡◌, refl, sym, ap, ◌∙◌}
+use mathlib.Core.Path.{◌≡◌, ap}
 use mathlib.Core.List.{List, [], ◌∷◌, ◌++◌}
 use Prim.Native.Nat.{ℕ, zero, suc, ◌+◌, ◌*◌, ◌%◌, ◌<◌}
 use native.Mathlib.Omega.{arith}
 use native.Mathlib.Numerals.{add-one}
-use lib.ListN.{length, take, set, replicate}
-use lib.Seq.{take-suc-set, take_all}
+use lib.ListN.{length, take, set}
+use lib.Seq.{take-suc-set}
 use Rattle.script.specs.Fills.{listed}
 
 -- one value more at the end
@@ -23,16 +23,6 @@ pub fill-turn : (rule : ℕ → ℕ) (area : List ℕ) (i value : ℕ) → i < l
 fill-turn rule area i value h e v =
     let z : 0 + i ≡ i = omega arith in
     rw (add-one, take-suc-set, e, v, ← listed-snoc rule 0 i) (rw z)
-
--- its end
-pub fill_end : (rule : ℕ → ℕ) (area : List ℕ) (i n : ℕ) → i ≡ n → length area ≡ n → take i area ≡ listed rule 0 i → area ≡ listed rule 0 n
-fill_end rule area i n h k e = sym (take_all i area (omega arith)) ∙ e ∙ ap (listed rule 0) h
-
--- the rule that gives one value
-pub listed-one : (value index count : ℕ) → listed (λ i. value) index count ≡ replicate count value
-unfolding listed
-listed-one value index zero = refl
-listed-one value index (suc count) = ap (λ (l : List ℕ). value ∷ l) (listed-one value (suc index) count)
 
 -- Describe's byte after another: 13 more
 pub described-next : (seed j value : ℕ) → value ≡ (seed + 13 * j) % 256 → (value + 13) % 256 ≡ (seed + 13 * (j + 1)) % 256

@@ -1,27 +1,26 @@
 -- A line read a byte further: what it comes to stays the same, whatever follows.
 -- Assumes nothing.
 use mathlib.Core.Path.{◌≡◌, refl, sym, ap, ◌∙◌}
-use mathlib.Core.Bool.{Bool, true, false, not, ◌&&◌, ◌||◌}
+use mathlib.Core.Bool.{Bool, true, false, ◌&&◌}
 use mathlib.Core.List.{List, [], ◌∷◌, ◌++◌, map}
 use Prim.Native.Nat.{ℕ, zero, suc, ◌+◌, ◌*◌, ◌-◌, ◌^◌, ◌≤◌, ◌<◌}
 use native.Mathlib.Omega.{arith}
 use lib.ListN.{drop}
-use lib.Dec.{eqb, ltb}
 use borrow.Author.Tests.{ne_eqb}
+use Rattle.std.specs.Prelude.{Option, None}
 use Rattle.script.specs.declared.Command.{Command}
-use Rattle.script.specs.declared.Command.TheVariants.{Bad}
 use Rattle.script.specs.Commands.{alone, with_one, with_two, with_three, with_four, command_for, pick_command}
 use Rattle.script.specs.Lines.{Words, words_of, words_with, is_digit, spelled, spelled_from, is_number_from, all_numbers, command_in, command_of}
 use Rattle.script.specs.Meant.{whole_numbers, goes_on}
-use Rattle.script.proofs.Spelled.{number-ends, number-empty, number-breaks, number-overflows, number-goes-on, no_digit, no-digit-yet, digit-before}
+use Rattle.script.proofs.Spelled.{number-ends, number-empty, number-breaks, number-overflows, number-goes-on}
 
-pick_same : (t : Bool) (command : Command) → pick_command t command command ≡ command
+pick_same : (t : Bool) (command : Option Command) → pick_command t command command ≡ command
 pick_same true command = refl
 pick_same false command = refl
 
 -- a newest number that is none
-newest-fails : (t : Bool) (words : List (List ℕ)) (command : Command) → t ≡ false → pick_command (t && all_numbers words) command Bad ≡ Bad
-newest-fails t words command e = ap (λ (b : Bool). pick_command (b && all_numbers words) command Bad) e
+newest-fails : (t : Bool) (words : List (List ℕ)) (command : Option Command) → t ≡ false → pick_command (t && all_numbers words) command None ≡ None
+newest-fails t words command e = ap (λ (b : Bool). pick_command (b && all_numbers words) command None) e
 
 -- ---- words
 
@@ -36,7 +35,7 @@ words-other byte rest n = ap (λ (t : Bool). words_with t byte (words_of rest)) 
 
 -- ---- the first byte
 
-pub first-space : (rest : List ℕ) → Bad ≡ command_of (32 ∷ rest)
+pub first-space : (rest : List ℕ) → None ≡ command_of (32 ∷ rest)
 unfolding words_of command_in
 first-space rest = refl
 
@@ -55,18 +54,18 @@ first-letter letter rest n =
 
 module _ (letter first second third last : ℕ) (rest : List ℕ) where
   -- no digit since the last space
-  pub space-again : (count : ℕ) (digits : Bool) → (not (eqb count 0) && not digits) ≡ true
-      → Bad ≡ goes_on count letter (whole_numbers count first second third) digits last (words_of (32 ∷ rest))
-  space-again zero digits h = absurd ((no-digit-yet zero digits h).0 refl)
-  space-again (suc count) digits h =
+  pub space-again : (count : ℕ) (digits : Bool) → (count ≡ 0 → ⊥) → digits ≡ false
+      → None ≡ goes_on count letter (whole_numbers count first second third) digits last (words_of (32 ∷ rest))
+  space-again zero digits n d = absurd (n refl)
+  space-again (suc count) digits n d =
       sym
       (ap (goes_on (suc count) letter (whole_numbers (suc count) first second third) digits last) (words-space rest)
       ∙ newest-fails (is_number_from last digits []) ((words_of rest).head ∷ (words_of rest).tail) _
-      (ap (λ (b : Bool). is_number_from last b []) (no-digit-yet (suc count) digits h).1 ∙ number-empty last))
+      (ap (λ (b : Bool). is_number_from last b []) d ∙ number-empty last))
 
   -- a fifth number
   pub space-fifth : (count : ℕ) (digits : Bool) → 4 ≤ count
-      → Bad ≡ goes_on count letter (whole_numbers count first second third) digits last (words_of (32 ∷ rest))
+      → None ≡ goes_on count letter (whole_numbers count first second third) digits last (words_of (32 ∷ rest))
   unfolding command_for
   space-fifth zero digits h = absurd (omega arith)
   space-fifth (suc count) digits h =
@@ -76,77 +75,74 @@ module _ (letter first second third last : ℕ) (rest : List ℕ) where
       sym
       (ap (goes_on (suc count) letter (whole_numbers (suc count) first second third) digits last) (words-space rest)
       ∙ ap
-      (λ (n : ℕ). pick_command test (command_for letter (drop n (first ∷ second ∷ third ∷ []) ++ (spelled_from last [] ∷ map spelled words))) Bad)
+      (λ (n : ℕ). pick_command test (command_for letter (drop n (first ∷ second ∷ third ∷ []) ++ (spelled_from last [] ∷ map spelled words))) None)
       e
-      ∙ pick_same test Bad)
+      ∙ pick_same test None)
 
   -- a number ends, another begins
   newest-ends : (count : ℕ) (whole : List ℕ) (digits : Bool) → digits ≡ true → last < 2 ^ 64
       → goes_on (suc count) letter whole digits last (words_of (32 ∷ rest))
       ≡ pick_command (all_numbers ((words_of rest).head ∷ (words_of rest).tail))
-      (command_for letter (whole ++ (last ∷ map spelled ((words_of rest).head ∷ (words_of rest).tail)))) Bad
+      (command_for letter (whole ++ (last ∷ map spelled ((words_of rest).head ∷ (words_of rest).tail)))) None
   unfolding spelled_from
   newest-ends count whole digits d l =
       let words = (words_of rest).head ∷ (words_of rest).tail in
       ap (goes_on (suc count) letter whole digits last) (words-space rest)
-      ∙ ap (λ (t : Bool). pick_command (t && all_numbers words) (command_for letter (whole ++ (last ∷ map spelled words))) Bad)
+      ∙ ap (λ (t : Bool). pick_command (t && all_numbers words) (command_for letter (whole ++ (last ∷ map spelled words))) None)
       (ap (λ (b : Bool). is_number_from last b []) d ∙ number-ends last l)
 
-  pub space-begins : (count : ℕ) (digits : Bool) → count < 4 → (not (eqb count 0) && not digits) ≡ false → last < 2 ^ 64
+  pub space-begins : (count : ℕ) (digits : Bool) → count < 4 → ((count ≡ 0 → ⊥) → digits ≡ true) → last < 2 ^ 64
       → goes_on (count + 1) letter (whole_numbers (count + 1) second third last) false 0 (words_of rest)
       ≡ goes_on count letter (whole_numbers count first second third) digits last (words_of (32 ∷ rest))
   unfolding all_numbers
   space-begins zero digits h d l =
       sym (ap (goes_on 0 letter (whole_numbers 0 first second third) digits last) (words-space rest))
   space-begins (suc zero) digits h d l =
-      sym (newest-ends 0 (whole_numbers 1 first second third) digits (digit-before 1 digits d (λ (z : ◌≡◌ {A = ℕ} 1 0). omega arith)) l)
+      sym (newest-ends 0 (whole_numbers 1 first second third) digits (d (λ (z : ◌≡◌ {A = ℕ} 1 0). omega arith)) l)
   space-begins (suc (suc zero)) digits h d l =
-      sym (newest-ends 1 (whole_numbers 2 first second third) digits (digit-before 2 digits d (λ (z : ◌≡◌ {A = ℕ} 2 0). omega arith)) l)
+      sym (newest-ends 1 (whole_numbers 2 first second third) digits (d (λ (z : ◌≡◌ {A = ℕ} 2 0). omega arith)) l)
   space-begins (suc (suc (suc zero))) digits h d l =
-      sym (newest-ends 2 (whole_numbers 3 first second third) digits (digit-before 3 digits d (λ (z : ◌≡◌ {A = ℕ} 3 0). omega arith)) l)
+      sym (newest-ends 2 (whole_numbers 3 first second third) digits (d (λ (z : ◌≡◌ {A = ℕ} 3 0). omega arith)) l)
   space-begins (suc (suc (suc (suc count)))) digits h d l = absurd (omega arith)
 
 -- ---- another byte
 
 module _ (letter : ℕ) (whole : List ℕ) (digits : Bool) (last byte : ℕ) (rest : List ℕ) (other : byte ≡ 32 → ⊥) where
   -- in the letter's word
-  after-letter : Bad ≡ goes_on 0 letter whole digits last (words_of (byte ∷ rest))
+  after-letter : None ≡ goes_on 0 letter whole digits last (words_of (byte ∷ rest))
   after-letter = sym (ap (goes_on 0 letter whole digits last) (words-other byte rest other))
 
   newest-wrong : (count : ℕ) → is_number_from last digits (byte ∷ (words_of rest).head) ≡ false
-      → Bad ≡ goes_on (suc count) letter whole digits last (words_of (byte ∷ rest))
+      → None ≡ goes_on (suc count) letter whole digits last (words_of (byte ∷ rest))
   newest-wrong count e =
       sym
       (ap (goes_on (suc count) letter whole digits last) (words-other byte rest other)
       ∙ newest-fails (is_number_from last digits (byte ∷ (words_of rest).head)) (words_of rest).tail _ e)
 
   -- no digit, or no number to go on
-  pub byte-wrong : (count : ℕ) → ((eqb count 0 || ltb byte 48) || ltb 57 byte) ≡ true
-      → Bad ≡ goes_on count letter whole digits last (words_of (byte ∷ rest))
+  pub byte-wrong : (count : ℕ) → ((count ≡ 0 → ⊥) → is_digit byte ≡ false)
+      → None ≡ goes_on count letter whole digits last (words_of (byte ∷ rest))
   byte-wrong zero h = after-letter
-  byte-wrong (suc count) h =
-      let e : eqb (suc count) 0 ≡ false = ne_eqb (suc count) 0 (λ (z : suc count ≡ 0). omega arith) in
-      let g : (ltb byte 48 || ltb 57 byte) ≡ true = sym (ap (λ (t : Bool). (t || ltb byte 48) || ltb 57 byte) e) ∙ h in
-      newest-wrong count (number-breaks last digits byte (words_of rest).head (no_digit byte g))
+  byte-wrong (suc count) h = newest-wrong count (number-breaks last digits byte (words_of rest).head (h (λ (z : suc count ≡ 0). omega arith)))
 
   -- a number that grows too large
   pub byte-overflows : (count : ℕ) → (count ≡ 0 → ⊥) → 2 ^ 64 ≤ last * 10 + (byte - 48)
-      → Bad ≡ goes_on count letter whole digits last (words_of (byte ∷ rest))
+      → None ≡ goes_on count letter whole digits last (words_of (byte ∷ rest))
   byte-overflows zero n h = absurd (n refl)
   byte-overflows (suc count) n h = newest-wrong count (number-overflows last digits byte (words_of rest).head h)
 
   -- a digit more
-  pub byte-goes-on : (count digit : ℕ) → (count ≡ 0 → ⊥) → is_digit byte ≡ true → digit ≡ byte - 48
-      → goes_on count letter whole true (last * 10 + digit) (words_of rest) ≡ goes_on count letter whole digits last (words_of (byte ∷ rest))
+  pub byte-goes-on : (count longer : ℕ) → (count ≡ 0 → ⊥) → is_digit byte ≡ true → longer ≡ last * 10 + (byte - 48)
+      → goes_on count letter whole true longer (words_of rest) ≡ goes_on count letter whole digits last (words_of (byte ∷ rest))
   unfolding spelled_from
-  byte-goes-on zero digit n h e = absurd (n refl)
-  byte-goes-on (suc count) digit n h e =
-      ap (λ (d : ℕ). goes_on (suc count) letter whole true (last * 10 + d) (words_of rest)) e
+  byte-goes-on zero longer n h e = absurd (n refl)
+  byte-goes-on (suc count) longer n h e =
+      ap (λ (l : ℕ). goes_on (suc count) letter whole true l (words_of rest)) e
       ∙ sym
       (ap (goes_on (suc count) letter whole digits last) (words-other byte rest other)
       ∙ ap
       (λ (t : Bool). pick_command (t && all_numbers (words_of rest).tail)
-      (command_for letter (whole ++ (spelled_from (last * 10 + (byte - 48)) (words_of rest).head ∷ map spelled (words_of rest).tail))) Bad)
+      (command_for letter (whole ++ (spelled_from (last * 10 + (byte - 48)) (words_of rest).head ∷ map spelled (words_of rest).tail))) None)
       (number-goes-on last digits byte (words_of rest).head h))
 
 -- ---- the line's end
@@ -156,7 +152,7 @@ module _ (letter : ℕ) (whole : List ℕ) (last : ℕ) where
   unfolding words_of all_numbers command_for
   ends-alone count digits e = sym (ap (λ (n : ℕ). goes_on n letter whole digits last (words_of [])) e)
 
-  pub ends-empty : (count : ℕ) (digits : Bool) → (count ≡ 0 → ⊥) → digits ≡ false → Bad ≡ goes_on count letter whole digits last (words_of [])
+  pub ends-empty : (count : ℕ) (digits : Bool) → (count ≡ 0 → ⊥) → digits ≡ false → None ≡ goes_on count letter whole digits last (words_of [])
   unfolding words_of
   ends-empty zero digits n d = absurd (n refl)
   ends-empty (suc count) digits n d =
@@ -168,7 +164,7 @@ module _ (letter : ℕ) (whole : List ℕ) (last : ℕ) where
   ends-number zero digits n d l = absurd (n refl)
   ends-number (suc count) digits n d l =
       sym
-      (ap (λ (t : Bool). pick_command (t && true) (command_for letter (whole ++ (last ∷ []))) Bad)
+      (ap (λ (t : Bool). pick_command (t && true) (command_for letter (whole ++ (last ∷ []))) None)
       (ap (λ (b : Bool). is_number_from last b []) d ∙ number-ends last l))
 
 -- the whole numbers and the newest, by how many were begun

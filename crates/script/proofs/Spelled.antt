@@ -1,13 +1,12 @@
 -- Decimal numbers, a digit at a time.
 -- Assumes nothing.
-use mathlib.Core.Path.{◌≡◌, refl, sym, ap, ◌∙◌}
-use mathlib.Core.Bool.{Bool, true, false, not, ◌&&◌, ◌||◌}
+use mathlib.Core.Path.{◌≡◌, refl, ap, ◌∙◌}
+use mathlib.Core.Bool.{Bool, true, false, ◌&&◌, ◌||◌}
 use mathlib.Core.List.{List, [], ◌∷◌}
 use Prim.Native.Nat.{ℕ, ◌+◌, ◌*◌, ◌-◌, ◌^◌, ◌≤◌, ◌<◌}
 use native.Mathlib.Omega.{arith}
-use lib.Dec.{leb, ltb, eqb}
-use borrow.Author.Tests.{le-leb, lt-leb, lt-ltb, le-ltb, ltb-true, ltb-false, eqb-false, eq-eqb, ne_eqb}
-use Rattle.area.proofs.Laws.{never_both}
+use lib.Dec.{ltb}
+use borrow.Author.Tests.{lt-ltb, le-ltb}
 use Rattle.script.specs.Lines.{is_digit, all_digits, spelled_from, is_number_from}
 
 -- ---- tests
@@ -27,48 +26,6 @@ third-fails true true c e = e
 third-fails true false c e = refl
 third-fails false true c e = refl
 third-fails false false c e = refl
-
-pub is_digit_lem : (byte : ℕ) → 48 ≤ byte → byte ≤ 57 → is_digit byte ≡ true
-is_digit_lem byte l h = rw (le-leb 48 byte l, le-leb byte 57 h)
-
-at_last : (a b : Bool) → b ≡ false → (a && b) ≡ false
-at_last true b e = e
-at_last false b e = refl
-
--- below `0` or above `9`
-pub no_digit : (byte : ℕ) → (ltb byte 48 || ltb 57 byte) ≡ true → is_digit byte ≡ false
-no_digit byte h = by-test (ltb byte 48) refl
-  where
-    by-test : (t : Bool) → ltb byte 48 ≡ t → is_digit byte ≡ false
-    by-test true e = ap (λ (t : Bool). t && leb byte 57) (lt-leb 48 byte (ltb-true byte 48 e))
-    by-test false e =
-        let g : ltb 57 byte ≡ true = sym (ap (λ (t : Bool). t || ltb 57 byte) e) ∙ h in
-        at_last (leb 48 byte) (leb byte 57) (lt-leb byte 57 (ltb-true 57 byte g))
-
--- neither: a number goes on in a digit
-pub record ByteRight (count byte : ℕ) : Type 0 where
-  pub begun : count ≡ 0 → ⊥
-  pub low : 48 ≤ byte
-  pub high : byte ≤ 57
-
-pub byte-right : (count byte : ℕ) → ((eqb count 0 || ltb byte 48) || ltb 57 byte) ≡ false → ByteRight count byte
-byte-right count byte h =
-    let g = neither (eqb count 0 || ltb byte 48) (ltb 57 byte) h in
-    let k = neither (eqb count 0) (ltb byte 48) g.0 in
-    record { begun = eqb-false count 0 k.0; low = ltb-false byte 48 k.1; high = ltb-false 57 byte g.1 }
-  where
-    neither : (a b : Bool) → (a || b) ≡ false → (a ≡ false) × (b ≡ false)
-    neither true b e = (e, cc)
-    neither false b e = (refl, e)
-
--- a space behind a number's space, and one behind a letter or a digit
-pub no-digit-yet : (count : ℕ) (digits : Bool) → (not (eqb count 0) && not digits) ≡ true → (count ≡ 0 → ⊥) × (digits ≡ false)
-no-digit-yet count true h = absurd (never_both _ h (at_last (not (eqb count 0)) false refl))
-no-digit-yet count false h = ((λ (z : count ≡ 0). never_both _ h (ap (λ (t : Bool). not t && true) (eq-eqb count 0 z))), refl)
-
-pub digit-before : (count : ℕ) (digits : Bool) → (not (eqb count 0) && not digits) ≡ false → (count ≡ 0 → ⊥) → digits ≡ true
-digit-before count true h n = refl
-digit-before count false h n = absurd (never_both _ (ap (λ (t : Bool). not t && true) (ne_eqb count 0 n)) h)
 
 -- ---- numbers
 

@@ -1,8 +1,7 @@
 -- The command of a line, given without its newline: one letter, then decimal numbers below 2^64, one space before each.
 -- Assumes nothing.
-use Rattle.std.specs.Prelude.{ℕ, ◌+◌, ◌*◌, ◌-◌, ◌^◌, Bool, true, false, not, ◌&&◌, ◌||◌, List, [], ◌∷◌, map, eqb, leb, ltb}
+use Rattle.std.specs.Prelude.{ℕ, ◌+◌, ◌*◌, ◌-◌, ◌^◌, Bool, true, false, not, ◌&&◌, ◌||◌, Option, None, List, [], ◌∷◌, map, eqb, leb, ltb}
 use Rattle.script.specs.declared.Command.{Command}
-use Rattle.script.specs.declared.Command.TheVariants.{Bad}
 use Rattle.script.specs.Commands.{command_for, pick_command}
 
 -- the words of a line are what its spaces part: one more than there are spaces, some perhaps empty. The first, and those after it
@@ -53,10 +52,10 @@ all_numbers (word ∷ words) = is_number word && all_numbers words
 -- ---- the command
 
 -- a first word that is one byte, the letter, and numbers
-unfoldable pub command_in : List ℕ → List (List ℕ) → Command
-command_in [] words = Bad
-command_in (letter ∷ []) words = pick_command (all_numbers words) (command_for letter (map spelled words)) Bad
-command_in (letter ∷ byte ∷ more) words = Bad
+unfoldable pub command_in : List ℕ → List (List ℕ) → Option Command
+command_in [] words = None
+command_in (letter ∷ []) words = pick_command (all_numbers words) (command_for letter (map spelled words)) None
+command_in (letter ∷ byte ∷ more) words = None
 
-abbrev pub command_of : List ℕ → Command
+abbrev pub command_of : List ℕ → Option Command
 command_of line = command_in (words_of line).head (words_of line).tail

@@ -8,10 +8,10 @@ mod parsing;
 ghost use Rattle.std.specs.Prelude.{◌≡◌};
 ghost use Rattle.script.specs.Digest.{digest_of};
 
-pub use filling::{describe_bytes, fill, home_bytes};
+pub use filling::{describe_bytes, home_bytes};
 pub use parsing::{command_of, turn};
 
-// What a line asks for. Bad: the line is no command, or a number is out of the range that the language gives it.
+// What a line asks for.
 #[derive(Clone, Copy)]
 pub enum Command {
     Areas {
@@ -46,11 +46,10 @@ pub enum Command {
     },
     Next(u64),
     Digests,
-    Bad,
 }
 
 // A line's letter and the numbers after it, as far as they are read. Count: the numbers begun, the newest last and the others
-// before it; digits: the newest has one.
+// before it; digits: the newest has one. The numbers are fields and no array: a fifth that begins moves them on without an index to prove.
 #[derive(Clone, Copy)]
 pub struct Line {
     pub letter: u8,
@@ -74,11 +73,9 @@ pub enum Reading {
 pub fn digest(bytes: &[u8]) -> u64
     ensures { result ≡ digest_of bytes.now }
 {
-    let mut h: u64 = 0;
-    let mut i = 0;
-    while i < bytes.len() {
-        h = (h * 257 + filling::wide(bytes[i]) + 1) % 4294967291;
-        i += 1;
+    let mut h = 0;
+    for byte in bytes {
+        h = (h * 257 + u64::from(*byte) + 1) % 4294967291;
     }
     h
 }

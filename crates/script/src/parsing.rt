@@ -1,104 +1,101 @@
 // Reading a line, byte by byte: one letter, then decimal numbers, one space before each.
-ghost use Rattle.std.specs.Prelude.{◌≡◌, List, [], ◌∷◌, ℕ};
+ghost use Rattle.std.specs.Prelude.{◌≡◌, ◌+◌, ◌*◌, ◌^◌, ◌<◌, List, [], ◌∷◌, ℕ, SomeIff};
 ghost use Rattle.script.specs.Commands.{alone, with_one, with_two, with_three, with_four};
 ghost use Rattle.script.specs.Meant.{meant, line_meant};
 
-use crate::{Command, Line, Reading, filling};
+use crate::{Command, Line, Reading};
 
 // The command of a letter with no number.
-fn of_none(letter: u8) -> Command
+#[tactic(auto, unfolding(crate::specs::Commands::alone))]
+fn of_none(letter: u8) -> Option<Command>
     ensures { result ≡ alone letter }
 {
     match letter {
-        b'f' => Command::Format,
-        b'o' => Command::Open,
-        b'e' => Command::End,
-        b'l' => Command::LogStep,
-        b'c' => Command::CleanStep,
-        b'x' => Command::Cut,
-        b'g' => Command::Digests,
-        _ => Command::Bad,
+        b'f' => Some(Command::Format),
+        b'o' => Some(Command::Open),
+        b'e' => Some(Command::End),
+        b'l' => Some(Command::LogStep),
+        b'c' => Some(Command::CleanStep),
+        b'x' => Some(Command::Cut),
+        b'g' => Some(Command::Digests),
+        _ => None,
     }
 }
 
 // The command of a letter with one number.
-fn of_one(letter: u8, number: u64) -> Command
+#[tactic(auto, unfolding(crate::specs::Commands::with_one))]
+fn of_one(letter: u8, number: u64) -> Option<Command>
     ensures { result ≡ with_one letter number }
 {
     match letter {
-        b'b' => Command::Begin(number),
-        b'r' => Command::Read(number),
-        b's' => Command::Settled(number),
-        b't' => Command::Next(number),
-        _ => Command::Bad,
+        b'b' => Some(Command::Begin(number)),
+        b'r' => Some(Command::Read(number)),
+        b's' => Some(Command::Settled(number)),
+        b't' => Some(Command::Next(number)),
+        _ => None,
     }
 }
 
 // The command of a letter with two numbers.
-fn of_two(letter: u8, place: u64, value: u64) -> Command
+#[tactic(auto, unfolding(crate::specs::Commands::with_two))]
+fn of_two(letter: u8, place: u64, value: u64) -> Option<Command>
     ensures { result ≡ with_two letter place value }
 {
-    if (letter == b'p') & (value < 256) {
-        return Command::Poke { place, value };
+    match letter {
+        b'p' if value < 256 => Some(Command::Poke { place, value }),
+        _ => None,
     }
-    Command::Bad
 }
 
 // The command of a letter with three.
-fn of_three(letter: u8, slots: u64, pages: u64, frames: u64) -> Command
+#[tactic(auto, unfolding(crate::specs::Commands::with_three))]
+fn of_three(letter: u8, slots: u64, pages: u64, frames: u64) -> Option<Command>
     ensures { result ≡ with_three letter slots pages frames }
 {
-    let sized = (8 <= slots)
-        & (slots <= 64)
-        & (1 <= pages)
-        & (pages <= 16)
-        & (1 <= frames)
-        & (frames <= 8);
-    if (letter == b'a') & sized {
-        return Command::Areas {
+    let sized = (8..=64).contains(&slots) && (1..=16).contains(&pages) && (1..=8).contains(&frames);
+    match letter {
+        b'a' if sized => Some(Command::Areas {
             slots,
             pages,
             frames,
-        };
+        }),
+        _ => None,
     }
-    Command::Bad
 }
 
 // The command of a letter with four.
-fn of_four(letter: u8, first: u64, second: u64, third: u64, last: u64) -> Command
+#[tactic(auto, unfolding(crate::specs::Commands::with_four))]
+fn of_four(letter: u8, first: u64, second: u64, third: u64, last: u64) -> Option<Command>
     ensures { result ≡ with_four letter first second third last }
 {
-    if letter == b'n' {
-        return Command::Lend {
+    match letter {
+        b'n' => Some(Command::Lend {
             log: first,
             home: second,
             frames: third,
             staging: last,
-        };
-    }
-    if (letter == b'd') & (third <= 512) {
-        return Command::Describe {
+        }),
+        b'd' if third <= 512 => Some(Command::Describe {
             page: first,
             offset: second,
             length: third,
             seed: last,
-        };
+        }),
+        _ => None,
     }
-    Command::Bad
 }
 
 // The command of a letter and numbers that the line's end closes.
-fn line_command(line: Line) -> Command
+fn line_command(line: Line) -> Option<Command>
     ensures { result ≡ line_meant line [] }
 {
-    let count = line.count;
-    if count == 0 {
+    if line.count == 0 {
         return of_none(line.letter);
     }
     if !line.digits {
-        return Command::Bad;
+        return None;
     }
-    match count {
+    match line.count {
         1 => of_one(line.letter, line.last),
         2 => of_two(line.letter, line.third, line.last),
         3 => of_three(line.letter, line.second, line.third, line.last),
@@ -106,14 +103,15 @@ fn line_command(line: Line) -> Command
     }
 }
 
-// The command of a line that ends here.
-pub fn command_of(reading: Reading) -> Command
+// The command of a line that ends here, or None: it is no command, or a number is out of the range that the language gives it.
+#[tactic(auto, unfolding(crate::specs::Meant::meant, crate::specs::Lines::words_of, crate::specs::Lines::command_in))]
+pub fn command_of(reading: Reading) -> Option<Command>
     ensures { result ≡ meant reading [] }
 {
     match reading {
-        Reading::Nothing => Command::Bad,
+        Reading::Nothing => None,
         Reading::Partly(line) => line_command(line),
-        Reading::Wrong => Command::Bad,
+        Reading::Wrong => None,
     }
 }
 
@@ -139,21 +137,28 @@ fn begun(letter: u8) -> Reading
 fn spaced(line: Line) -> Reading
     ensures { (rest : List ℕ) → meant result rest ≡ line_meant line (32 ∷ rest) }
 {
-    if (line.count != 0) & (!line.digits) {
+    if line.count != 0 && !line.digits {
         return Reading::Wrong;
     }
     if 4 <= line.count {
         return Reading::Wrong;
     }
     Reading::Partly(Line {
-        letter: line.letter,
         count: line.count + 1,
         digits: false,
         first: line.second,
         second: line.third,
         third: line.last,
         last: 0,
+        ..line
     })
+}
+
+// A number with a digit more, if it fits in 64 bits.
+fn extended(number: u64, digit: u64) -> Option<u64>
+    ensures { SomeIff result (number * 10 + digit < 2 ^ 64) (number * 10 + digit) }
+{
+    number.checked_mul(10)?.checked_add(digit)
 }
 
 // A byte more that is no space: the newest number goes on.
@@ -161,37 +166,29 @@ fn continued(line: Line, byte: u8) -> Reading
     requires { byte ≡ 32 → ⊥ }
     ensures { (rest : List ℕ) → meant result rest ≡ line_meant line (byte ∷ rest) }
 {
-    if (line.count == 0) | (byte < b'0') | (b'9' < byte) {
+    if line.count == 0 || !byte.is_ascii_digit() {
         return Reading::Wrong;
     }
-    let digit = filling::wide(byte - b'0');
-    if (18446744073709551615 - digit) / 10 < line.last {
-        return Reading::Wrong;
+    let digit = u64::from(byte - b'0');
+    match extended(line.last, digit) {
+        Some(last) => Reading::Partly(Line {
+            digits: true,
+            last,
+            ..line
+        }),
+        None => Reading::Wrong,
     }
-    Reading::Partly(Line {
-        letter: line.letter,
-        count: line.count,
-        digits: true,
-        first: line.first,
-        second: line.second,
-        third: line.third,
-        last: line.last * 10 + digit,
-    })
 }
 
 // A byte more of a line.
+#[tactic(auto, unfolding(crate::specs::Meant::meant))]
 pub fn turn(reading: Reading, byte: u8) -> Reading
     ensures { (rest : List ℕ) → meant result rest ≡ meant reading (byte ∷ rest) }
 {
     match reading {
         Reading::Nothing => begun(byte),
-        Reading::Partly(line) => {
-            if byte == b' ' {
-                spaced(line)
-            } else {
-                continued(line, byte)
-            }
-        }
+        Reading::Partly(line) if byte == b' ' => spaced(line),
+        Reading::Partly(line) => continued(line, byte),
         Reading::Wrong => Reading::Wrong,
     }
 }

@@ -4,13 +4,12 @@ use mathlib.Core.Path.{◌≡◌, refl, sym, ap, ◌∙◌}
 use mathlib.Core.Bool.{Bool, true, false, ◌&&◌}
 use Prim.Native.Nat.{ℕ, ◌+◌, ◌-◌, ◌^◌, ◌≤◌, ◌<◌}
 use native.Mathlib.Omega.{arith}
-use lib.Dec.{leb, ltb}
 use lib.ListN.{length}
 use lib.Seq.{length-take-le}
 use borrow.Author.Tests.{eq-eqb, ne_eqb}
 use Rattle.promises.specs.declared.State.{State}
 use Rattle.promises.specs.Contents.{total, groups_of}
-use Rattle.promises.specs.Sums.{first_groups, group_start, smallest, block_count, dirty_count, owed_blocks, reserved_updates, waiting_blocks}
+use Rattle.promises.specs.Sums.{first_groups, group_start, smallest, block_count, dirty_count, reserved_updates, waiting_blocks}
 use Rattle.soundness.specs.declared.sums.Sums.{Sums}
 use Rattle.promises.specs.Sound.{sizes_legal, sound_as}
 use Rattle.promises.proofs.Soundness.{SoundAs, sound-as-of}
@@ -23,13 +22,6 @@ use Rattle.soundness.proofs.Scans.{blocks-total}
 by_zero : {C : Type 0} (a : ℕ) → (a ≡ 0 → C) → ((a ≡ 0 → ⊥) → C) → C
 by_zero ℕ.zero f g = f refl
 by_zero (ℕ.suc a) f g = g (λ e. omega arith)
-
--- what the open transaction owes
-pub owed_none : (s : State) → s.reserved ≡ 0 → 0 ≡ owed_blocks s
-owed_none s e = simp (eq-eqb _ _ e)
-
-pub owed-some : (s : State) → (s.reserved ≡ 0 → ⊥) → s.reserved + 1 ≡ owed_blocks s
-owed-some s n = simp (ne_eqb _ _ n) (omega arith)
 
 -- R is what the state says
 pub reserved-is : (s : State) → reserved_updates s ≡ s.reserved
@@ -57,12 +49,6 @@ summed s low count queued left long a oldest dirty total rest =
       dirty-most = dirty.1;
       queued-most = total.1;
     }
-
--- the code's tests of the sums
-pub fit-law : (s : State) (t : Sums) (owed : ℕ) → Summed s t → owed ≡ owed_blocks s
-    → (ltb s.ticket (s.next - s.stored) && leb (t.held + t.waiting + t.dirty + t.queued + s.reserved + owed) s.slots
-    && leb (t.dirty + t.queued + s.reserved) s.frames && leb (s.next + t.waiting + owed) (2 ^ 48)) ≡ fitting s
-fit-law s t owed h e = rw (h.held, h.waiting, h.dirty, h.queued, e, reserved-is s)
 
 -- ---- the numbers in range
 

@@ -1,13 +1,12 @@
 -- The tests of the code, taken together, are soundness.
 -- Assumes nothing.
 use mathlib.Core.Path.{◌≡◌, sym}
-use mathlib.Core.Bool.{Bool, true, false, not, ◌&&◌}
+use mathlib.Core.Bool.{Bool, true, false, ◌&&◌}
 use mathlib.Core.List.{List}
 use Prim.Native.Nat.{ℕ, ◌+◌, ◌≤◌}
 use native.Mathlib.Omega.{arith}
 use native.Mathlib.Nat.{sub-zero}
-use lib.Dec.{eqb, leb}
-use lib.ListN.{length, take, get_or}
+use lib.ListN.{length, take}
 use borrow.Author.Tests.{leb-true, ltb-true, le-leb, lt-ltb}
 use Rattle.area.proofs.Laws.{and_both, and2, never_both, not-passed}
 use Rattle.block.proofs.Tests.{bool-ext}
@@ -18,7 +17,6 @@ use Rattle.promises.specs.Sums.{frames_taken, reserved_updates}
 use Rattle.promises.specs.Sound.{distinct, dirty_numbers, areas_of, sizes_legal, staged_of, half_group_sound, mark_sound, ticket_sound, slot_sum_sound, frame_sum_sound, sequence_sum_sound, names, cleaning_sound, sound_as}
 use Rattle.promises.proofs.Soundness.{SoundAs, sound-as-of, of-sound-as}
 use Rattle.soundness.specs.Tests.{in_range, fitting, kind_legal, counts_legal, entries_legal, pages_legal, updates_legal, waiting_legal}
-use Rattle.soundness.proofs.Scans.{stored-oldest}
 use Rattle.soundness.proofs.Counts.{InRange, range-of, of_range, reserved-is}
 use Rattle.soundness.proofs.Entries.{Entries, entries-of, of-entries, Waiting, waiting-of, of-waiting}
 
@@ -67,14 +65,6 @@ counts_of copy s long f =
     } in
     and2 (and2 (of_range s range) (and2 f.groups (and2 f.stored f.mark)))
     (and2 (and2 (and2 (lt-ltb _ _ f.ticket) (le-leb _ _ f.slot_sum)) (le-leb _ _ f.frame_sum)) (le-leb _ _ f.sequence_sum))
-
--- the tests of a state's kind: a copy's, and a desk's by how many updates the oldest queued group has
-pub kind-copy : (copy : Bool) (s : State) → copy ≡ true → (eqb s.queued 0 && eqb s.reserved 0 && s.copy) ≡ kind_legal copy s
-kind-copy copy s e = rw e
-
-pub kind-desk : (copy : Bool) (s : State) (oldest : ℕ) → copy ≡ false → oldest ≡ get_or (groups_of s) 0 0
-    → (leb s.stored oldest && not s.copy) ≡ kind_legal copy s
-kind-desk copy s oldest e f = rw (e, f, stored-oldest s.stored (groups_of s))
 
 -- what one pass over the groups tells, and the kind
 pub told : (copy : Bool) (s : State) (legal kind : Bool) → legal ≡ sizes_legal (groups_of s) → kind ≡ kind_legal copy s

@@ -5,3 +5,5 @@ pub mod Marks
 pub mod Counts
 pub mod Entries
 pub mod Decided
+pub mod Verdicts
+pub mod Members

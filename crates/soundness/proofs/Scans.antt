@@ -1,20 +1,19 @@
 -- What a scan of the state's arrays tells at each turn: what is left to see, and how a definition over it goes on.
 -- Assumes nothing.
-use mathlib.Core.Path.{◌≡◌, refl, sym, ap, ◌∙◌}
+use mathlib.Core.Path.{◌≡◌, sym, ap, ◌∙◌}
 use mathlib.Core.Bool.{Bool, true, ◌&&◌, and-true, and_assoc}
 use mathlib.Core.List.{List, [], ◌∷◌, ◌++◌, map, append_assoc, append-nil}
-use Prim.Native.Nat.{ℕ, zero, suc, ◌+◌, ◌-◌, ◌≤◌, ◌<◌, min}
+use Prim.Native.Nat.{ℕ, ◌+◌, ◌≤◌, ◌<◌, min}
 use native.Mathlib.Omega.{arith}
 use native.Mathlib.Numerals.{add-one}
-use lib.Dec.{leb}
 use lib.ListN.{length, take, drop, get_or, set, length-map, drop_of_length-le}
-use lib.Seq.{drop-cons, get_or-take, length-take-le, take-suc-set}
-use borrow.Author.Tests.{lt-leb, eq-eqb, ne_eqb}
+use lib.Seq.{drop-cons, take-suc-set}
+use borrow.Author.Tests.{eq-eqb, ne_eqb}
 use Rattle.promises.specs.declared.Dirty.{Dirty}
 use Rattle.promises.specs.declared.Staged.{Staged}
 use Rattle.promises.specs.Contents.{total}
 use Rattle.promises.specs.Sums.{first_groups, smallest, block_count}
-use Rattle.promises.specs.Sound.{dirty_numbers, areas_of, of_oldest}
+use Rattle.promises.specs.Sound.{dirty_numbers, areas_of}
 use Rattle.promises.specs.States.{free}
 use Rattle.soundness.specs.Tests.{entry_legal, entries_legal, no_staged, staged_legal, updates_legal}
 
@@ -22,32 +21,10 @@ use Rattle.soundness.specs.Tests.{entry_legal, entries_legal, no_staged, staged_
 pub length-mapped : (X Y : Type 0) (f : X → Y) (l : List X) (n : ℕ) → length (map f l) ≡ n → length l ≡ n
 length-mapped X Y f l n h = sym (length-map l f) ∙ h
 
--- ---- what is left of a list, and of its first n elements
+-- ---- what is left of a list
 module _ {A : Type 0} where
   pub from_cons : (l : List A) (i : ℕ) (d : A) → i < length l → drop i l ≡ get_or l i d ∷ drop (i + 1) l
   from_cons l i d h = rw (add-one, drop-cons l i d h)
-
-  pub rest-cons : (l : List A) (n i : ℕ) (d : A) → i < n → n ≤ length l → drop i (take n l) ≡ get_or l i d ∷ drop (i + 1) (take n l)
-  rest-cons l n i d h k =
-      let e : length (take n l) ≡ n = length-take-le n l k in
-      rw (add-one, drop-cons (take n l) i d (omega arith), get_or-take n l i d h)
-
-  -- one step towards the first element
-  pub from_back : (l : List A) (i : ℕ) (d : A) → 0 < i → i ≤ length l → drop (i - 1) l ≡ get_or l (i - 1) d ∷ drop i l
-  from_back l i d p h =
-      let back : i - 1 + 1 ≡ i = omega arith in
-      from_cons l (i - 1) d (omega arith) ∙ ap (λ (j : ℕ). get_or l (i - 1) d ∷ drop j l) back
-
-  pub rest_back : (l : List A) (n i : ℕ) (d : A) → 0 < i → i ≤ n → n ≤ length l → drop (i - 1) (take n l) ≡ get_or l (i - 1) d ∷ drop i (take n l)
-  rest_back l n i d p h k =
-      let e : length (take n l) ≡ n = length-take-le n l k in
-      from_back (take n l) i d p (omega arith) ∙ ap (λ (x : A). x ∷ drop i (take n l)) (get_or-take n l (i - 1) d (omega arith))
-
-  pub rest_end : (l : List A) (n i : ℕ) → n ≤ i → n ≤ length l → drop i (take n l) ≡ []
-  rest_end l n i h k =
-      let e : length (take n l) ≡ n = length-take-le n l k in
-      let f : length (take n l) ≤ i = omega arith in
-      drop_of_length-le (take n l) f
 
 -- ---- dirty pages
 
@@ -78,13 +55,13 @@ module _ (entries : List Dirty) (i : ℕ) where
   unfolding first_groups
   firsts-end h = rw (drop_of_length-le entries h)
 
-smallest-min : (a x : ℕ) (xs : List ℕ) → smallest (min x a) xs ≡ min x (smallest a xs)
-smallest-min a x [] = refl
+smallest-min : (a x : ℕ) (xs : List ℕ) → smallest (min a x) xs ≡ min x (smallest a xs)
+smallest-min a x [] = omega arith
 smallest-min a x (y ∷ ys) = omega (arith, smallest-min a x ys)
 
 -- the oldest so far once a page's first group is seen, and past a free frame
 module _ (entries : List Dirty) (i low low' own : ℕ) (h : i < length entries) (so_far : smallest low (first_groups (drop i entries)) ≡ own) where
-  pub oldest-more : ((get_or entries i free).first ≡ 0 → ⊥) → low' ≡ min (get_or entries i free).first low → smallest low' (first_groups (drop (i + 1) entries)) ≡ own
+  pub oldest-more : ((get_or entries i free).first ≡ 0 → ⊥) → low' ≡ min low (get_or entries i free).first → smallest low' (first_groups (drop (i + 1) entries)) ≡ own
   oldest-more some e =
       ap (λ (a : ℕ). smallest a (first_groups (drop (i + 1) entries))) e
       ∙ smallest-min low (get_or entries i free).first (first_groups (drop (i + 1) entries))
@@ -95,12 +72,6 @@ module _ (entries : List Dirty) (i low low' own : ℕ) (h : i < length entries) 
       ap (λ (a : ℕ). smallest a (first_groups (drop (i + 1) entries))) e ∙ sym (ap (smallest low) (firsts_same entries i h none)) ∙ so_far
 
 -- ---- the queue
-
--- no more is stored than the oldest group has, and nothing where no group is queued
-pub stored-oldest : (stored : ℕ) (sizes : List ℕ) → leb stored (get_or sizes 0 0) ≡ of_oldest stored sizes
-stored-oldest zero [] = refl
-stored-oldest (suc stored) [] = lt-leb (suc stored) 0 (omega arith) ∙ sym (ne_eqb (suc stored) 0 (λ e. omega arith))
-stored-oldest stored (size ∷ sizes) = refl
 
 pub blocks-total : (sizes : List ℕ) → block_count sizes ≡ total sizes + length sizes
 blocks-total [] = omega arith
@@ -144,30 +115,28 @@ legal-end pages frames next entries i legal whole h so_far = sym (and-true legal
 
 -- ---- update by update
 
-module _ (pages frames : ℕ) (staged : List Staged) (count i : ℕ) (fits : count ≤ length staged) where
-  updates-turn : i < count
-      → updates_legal pages frames (drop i (take count staged))
-      ≡ (staged_legal pages frames (get_or staged i no_staged) && updates_legal pages frames (drop (i + 1) (take count staged)))
+module _ (pages frames : ℕ) (updates : List Staged) (i : ℕ) where
+  updates-turn : i < length updates
+      → updates_legal pages frames (drop i updates) ≡ (staged_legal pages frames (get_or updates i no_staged) && updates_legal pages frames (drop (i + 1) updates))
   unfolding updates_legal
-  updates-turn h = rw (rest-cons staged count i no_staged h fits)
+  updates-turn h = rw (from_cons updates i no_staged h)
 
-  updates-none : count ≤ i → updates_legal pages frames (drop i (take count staged)) ≡ true
+  updates-none : length updates ≤ i → updates_legal pages frames (drop i updates) ≡ true
   unfolding updates_legal
-  updates-none h = rw (rest_end staged count i h fits)
+  updates-none h = rw (drop_of_length-le updates h)
 
-module _ (pages frames : ℕ) (staged : List Staged) (count i : ℕ) (fits : count ≤ length staged) (legal whole : Bool)
-    (so_far : (legal && updates_legal pages frames (drop i (take count staged))) ≡ whole) where
+module _ (pages frames : ℕ) (updates : List Staged) (i : ℕ) (legal whole : Bool) (so_far : (legal && updates_legal pages frames (drop i updates)) ≡ whole) where
   -- one more is tested
-  pub updates-more : (test : Bool) → i < count → test ≡ staged_legal pages frames (get_or staged i no_staged)
-      → (legal && test && updates_legal pages frames (drop (i + 1) (take count staged))) ≡ whole
+  pub updates-more : (test : Bool) → i < length updates → test ≡ staged_legal pages frames (get_or updates i no_staged)
+      → (legal && test && updates_legal pages frames (drop (i + 1) updates)) ≡ whole
   updates-more test h e =
-      let later = updates_legal pages frames (drop (i + 1) (take count staged)) in
-      ap (λ (b : Bool). legal && b && later) e ∙ and_assoc legal (staged_legal pages frames (get_or staged i no_staged)) later
-      ∙ ap (λ (b : Bool). legal && b) (sym (updates-turn pages frames staged count i fits h)) ∙ so_far
+      let later = updates_legal pages frames (drop (i + 1) updates) in
+      ap (λ (b : Bool). legal && b && later) e ∙ and_assoc legal (staged_legal pages frames (get_or updates i no_staged)) later
+      ∙ ap (λ (b : Bool). legal && b) (sym (updates-turn pages frames updates i h)) ∙ so_far
 
   -- the last is seen
-  pub updates-end : count ≤ i → legal ≡ whole
-  updates-end h = sym (and-true legal) ∙ ap (λ (b : Bool). legal && b) (sym (updates-none pages frames staged count i fits h)) ∙ so_far
+  pub updates-end : length updates ≤ i → legal ≡ whole
+  updates-end h = sym (and-true legal) ∙ ap (λ (b : Bool). legal && b) (sym (updates-none pages frames updates i h)) ∙ so_far
 
 -- ---- gathering: one number more goes to the end
 
@@ -177,20 +146,18 @@ gather-more list rest whole n x h e = ap (λ (l : List ℕ). l ++ rest) (ap (λ 
 pub gather-end : (list rest whole : List ℕ) (n : ℕ) → rest ≡ [] → take n list ++ rest ≡ whole → take n list ≡ whole
 gather-end list rest whole n z e = sym (append-nil (take n list)) ∙ ap (λ (l : List ℕ). take n list ++ l) (sym z) ∙ e
 
-module _ (staged : List Staged) (count i : ℕ) (fits : count ≤ length staged) (list whole : List ℕ) (so_far : take i list ++ areas_of (drop i (take count staged)) ≡ whole) where
+module _ (updates : List Staged) (i : ℕ) (list whole : List ℕ) (so_far : take i list ++ areas_of (drop i updates) ≡ whole) where
   -- one more update's area is gathered
-  pub areas-more : (area : ℕ) → i < count → i < length list → area ≡ (get_or staged i no_staged).area
-      → take (i + 1) (set list i area) ++ areas_of (drop (i + 1) (take count staged)) ≡ whole
+  pub areas-more : (area : ℕ) → i < length updates → i < length list → area ≡ (get_or updates i no_staged).area
+      → take (i + 1) (set list i area) ++ areas_of (drop (i + 1) updates) ≡ whole
   areas-more area h l e =
-      let later = areas_of (drop (i + 1) (take count staged)) in
-      let is : area ∷ later ≡ areas_of (drop i (take count staged)) = ap (λ (x : ℕ). x ∷ later) e ∙ sym (ap areas_of (rest-cons staged count i no_staged h fits)) in
+      let later = areas_of (drop (i + 1) updates) in
+      let is : area ∷ later ≡ areas_of (drop i updates) = ap (λ (x : ℕ). x ∷ later) e ∙ sym (ap areas_of (from_cons updates i no_staged h)) in
       gather-more list later whole i area l (ap (λ (x : List ℕ). take i list ++ x) is ∙ so_far)
 
   -- all are
-  pub areas-end : i ≡ count → take count list ≡ whole
-  areas-end e =
-      let end = rest_end staged count i (omega arith) fits in
-      ap (λ (n : ℕ). take n list) (sym e) ∙ gather-end list (areas_of (drop i (take count staged))) whole i (ap areas_of end) so_far
+  pub areas-end : length updates ≤ i → take i list ≡ whole
+  areas-end h = gather-end list (areas_of (drop i updates)) whole i (ap areas_of (drop_of_length-le updates h)) so_far
 
 module _ (entries : List Dirty) (i : ℕ) (list list' whole : List ℕ) (n n' : ℕ) (h : i < length entries) (so_far : take n list ++ dirty_numbers (drop i entries) ≡ whole) where
   -- a dirty page's number is gathered

@@ -1,10 +1,10 @@
 // The dirty pages of a state: one pass over the frames' entries, and the page that a cleaning names.
-ghost use Rattle.std.specs.Prelude.{◌≡◌, ◌&&◌, ◌≤◌, min, length, take};
+ghost use Rattle.std.specs.Prelude.{◌≡◌, ◌&&◌, ◌≤◌, length, take};
 ghost use Rattle.promises.specs.Sums.{smallest, first_groups};
 ghost use Rattle.promises.specs.Sound.{distinct, dirty_numbers, names};
 ghost use Rattle.soundness.specs.Tests.{entry_legal, entries_legal};
 
-use crate::{numbers, wide};
+use crate::numbers;
 use promises::{Cleaning, Dirty};
 
 // What one pass over the frames tells: whether every entry is as it has to be, how many pages are dirty, and the oldest of a start
@@ -20,18 +20,8 @@ pub struct Survey {
 fn entry_sound(entry: Dirty, frame: usize, pages: usize, frames: usize, next: u64) -> bool
     ensures { result ≡ entry_legal pages frames next frame entry }
 {
-    let page = wide::field(entry.page);
+    let page = usize::from(entry.page);
     (entry.first == 0) | ((frame < frames) & (page < pages) & (entry.first < next))
-}
-
-// The smaller of two numbers.
-fn lower(a: u64, b: u64) -> u64
-    ensures { result ≡ min b a }
-{
-    if b < a {
-        return b;
-    }
-    a
 }
 
 // One pass over the frames; four free ones are passed over at once. The numbers of the dirty pages go to a list that the caller lends: one
@@ -51,40 +41,35 @@ pub fn survey_of(
     let mut count = 0;
     let mut low = own;
     let mut legal = true;
-    let mut i = 0;
-    while i < 32 {
+    for i in (0..32).step_by(4) {
         let one = dirty[i];
         let two = dirty[i + 1];
         let three = dirty[i + 2];
         let four = dirty[i + 3];
         if (one.first != 0) | (two.first != 0) | (three.first != 0) | (four.first != 0) {
-            let end = i + 4;
-            let mut j = i;
-            while j < end {
+            for j in i..i + 4 {
                 let entry = dirty[j];
                 if entry.first != 0 {
-                    legal = legal & entry_sound(entry, j, pages, frames, next);
-                    low = lower(low, entry.first);
+                    legal &= entry_sound(entry, j, pages, frames, next);
+                    low = low.min(entry.first);
                     list[count] = entry.page;
                     count += 1;
                 }
-                j += 1;
             }
         }
-        i += 4;
     }
     Survey { legal, count, low }
 }
 
-// Whether a cleaning names one of these pages.
+// Whether a cleaning names one of these pages. By any, not contains, as in numbers.rt.
 fn named(cleaning: Cleaning, pages: &[u16]) -> bool
     ensures { result ≡ names cleaning pages.now }
 {
     match cleaning {
         Cleaning::Idle => true,
-        Cleaning::First(page) => numbers::member_from(pages, 0, page),
-        Cleaning::Second(page) => numbers::member_from(pages, 0, page),
-        Cleaning::Third(page) => numbers::member_from(pages, 0, page),
+        Cleaning::First(page) | Cleaning::Second(page) | Cleaning::Third(page) => {
+            pages.iter().any(|dirty| page == *dirty)
+        }
     }
 }
 

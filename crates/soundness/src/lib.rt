@@ -6,9 +6,8 @@ pub mod dirty;
 pub mod numbers;
 pub mod queued;
 pub mod sums;
-pub mod wide;
 
-ghost use Rattle.std.specs.Prelude.{◌≡◌, false, get_or};
+ghost use Rattle.std.specs.Prelude.{◌≡◌, get_or};
 ghost use Rattle.promises.specs.Contents.{groups_of};
 ghost use Rattle.soundness.specs.Tests.{in_range, kind_legal};
 ghost use Rattle.soundness.specs.Verdicts.{JudgesAs};
@@ -18,13 +17,6 @@ use sums::Sums;
 
 // The first number that is no sequence: sequences go up to 2^48 - 1.
 pub const SEQUENCE_END: u64 = 281474976710656;
-
-// Whether a state is sound, and the sums over it where it is.
-#[derive(Clone, Copy)]
-pub struct Verdict {
-    pub sound: bool,
-    pub sums: Sums,
-}
 
 // Whether the state's single numbers are in range: what keeps the sums from wrapping.
 fn in_range(state: State) -> bool
@@ -44,19 +36,6 @@ fn in_range(state: State) -> bool
         & (stored < state.next)
 }
 
-// No sound state, and no sums.
-fn unsound() -> Verdict
-    ensures { result.sound ≡ false }
-{
-    let sums = Sums {
-        held: 0,
-        waiting: 0,
-        dirty: 0,
-        queued: 0,
-    };
-    Verdict { sound: false, sums }
-}
-
 // Whether a half-stored group is as it has to be in a copy's state or in a desk's, and the state is of that kind. `oldest`: how many updates
 // the oldest queued group has, 0 where none is queued.
 fn kind_legal(state: State, copy: bool, oldest: usize) -> bool
@@ -69,22 +48,20 @@ fn kind_legal(state: State, copy: bool, oldest: usize) -> bool
     (state.stored <= oldest) & !state.copy
 }
 
-// Whether a state is sound as a copy's or as a desk's, and the sums over it where it is.
-pub fn checked_as(state: State, copy: bool) -> Verdict
+// The sums over a state that is sound as a copy's or as a desk's; none where it is not.
+pub fn checked_as(state: State, copy: bool) -> Option<Sums>
     ensures { JudgesAs copy state result }
 {
     if !in_range(state) {
-        return unsound();
+        return None;
     }
-    let groups = state.groups;
-    let sizes = queued::sizes_of(groups, state.queued);
+    let sizes = queued::sizes_of(state.groups, state.queued);
     if !(sizes.legal & kind_legal(state, copy, sizes.oldest)) {
-        return unsound();
+        return None;
     }
-    let dirty = state.dirty;
     let mut list = [0u16; 32];
     let survey = dirty::survey_of(
-        dirty,
+        state.dirty,
         state.pages,
         state.frames,
         state.next,
@@ -94,24 +71,19 @@ pub fn checked_as(state: State, copy: bool) -> Verdict
     let queued = sizes.updates;
     let sums = Sums {
         held: (state.next - survey.low) as usize,
-        waiting: sums::left(queued + state.queued, state.stored),
+        waiting: (queued + state.queued).saturating_sub(state.stored),
         dirty: survey.count,
         queued,
     };
     if !sums::fit(state, sums) {
-        return unsound();
+        return None;
     }
-    let cleaning = state.cleaning;
-    let found = survey.count;
-    let pages = dirty::pages_sound(cleaning, survey.legal, &list[..found]);
+    if !dirty::pages_sound(state.cleaning, survey.legal, &list[..survey.count]) {
+        return None;
+    }
     let count = queued + state.described;
-    if count == 0 {
-        return Verdict { sound: pages, sums };
+    if count != 0 && !queued::staged_sound(state.staged, count, state.pages, state.frames) {
+        return None;
     }
-    let staged = state.staged;
-    let waiting = queued::staged_sound(staged, count, state.pages, state.frames);
-    Verdict {
-        sound: pages & waiting,
-        sums,
-    }
+    Some(sums)
 }

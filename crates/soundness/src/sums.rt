@@ -1,5 +1,5 @@
 // The sums over a state.
-ghost use Rattle.std.specs.Prelude.{◌≡◌, ◌-◌, ◌≤◌};
+ghost use Rattle.std.specs.Prelude.{◌≡◌, ◌≤◌};
 ghost use Rattle.promises.specs.Sums.{owed_blocks};
 ghost use Rattle.soundness.specs.Tests.{fitting};
 ghost use Rattle.soundness.specs.Summed.{Addable, Summed};
@@ -15,25 +15,16 @@ pub struct Sums {
     pub queued: usize,
 }
 
-// How many of so many blocks are left once some are stored.
-pub fn left(blocks: usize, stored: usize) -> usize
-    ensures { result ≡ blocks - stored }
-{
-    if blocks < stored {
-        return 0;
-    }
-    blocks - stored
-}
-
 // What the open transaction owes: R + 1 blocks, none where none is open.
 pub fn owed(state: State) -> usize
     requires { state.reserved ≤ 16 }
     ensures { (result ≡ owed_blocks state) × (result ≤ 17) }
 {
     if state.reserved == 0 {
-        return 0;
+        0
+    } else {
+        state.reserved + 1
     }
-    state.reserved + 1
 }
 
 // Whether the ticket is below the oldest group's start and the sums are within the sizes.

@@ -3,175 +3,115 @@
 #![tactic(auto)]
 
 use block::{Block, Judged, Kind};
-use promises::{Answer, Cleaning, Dirty, Logged, Staged, State};
-
-// Standard output.
-const STDOUT: i32 = 1;
-
-fn say(text: &[u8]) {
-    io::write_all(STDOUT, text);
-}
-
-fn show(number: u64) {
-    io::print_decimal(STDOUT, number);
-}
-
-fn show_byte(byte: u8) {
-    show(byte as u64);
-}
-
-// A word and a number after it.
-fn field(word: &[u8], number: u64) {
-    say(word);
-    show(number);
-}
-
-// One hex digit.
-fn digit(value: u8) {
-    let low = value % 16;
-    let letter = if low < 10 { low + 48 } else { low + 55 };
-    let text = [letter; 1];
-    say(&text);
-}
-
-// A byte as two hex digits.
-fn hex(byte: u8) {
-    say(b" ");
-    digit(byte / 16);
-    digit(byte % 16);
-}
+use promises::{Cleaning, Dirty, Logged, Staged, State};
+use std::io;
 
 // What a kind of block says.
-fn show_kind(kind: Kind) {
+fn show_kind(rt: &impl Print, kind: Kind) -> io::Result<()> {
     match kind {
         Kind::Update {
             index,
             page,
             offset,
             length,
-        } => {
-            field(b" update index ", index as u64);
-            field(b" page ", page as u64);
-            field(b" offset ", offset as u64);
-            field(b" length ", length as u64);
-        }
-        Kind::Commit { updates } => field(b" commit updates ", updates as u64),
-        Kind::Clean { page } => field(b" clean page ", page as u64),
+        } => print!(rt; " update index {index} page {page} offset {offset} length {length}"),
+        Kind::Commit { updates } => print!(rt; " commit updates {updates}"),
+        Kind::Clean { page } => print!(rt; " clean page {page}"),
     }
 }
 
 // What a block says.
-fn show_block(block: Block) {
-    let kind = block.kind;
-    show_kind(kind);
-    field(b" sequence ", block.sequence);
-    field(b" keep-from ", block.keep_from);
-    field(b" ticket ", block.ticket);
+fn show_block(rt: &impl Print, block: Block) -> io::Result<()> {
+    show_kind(rt, block.kind)?;
+    print!(rt;
+        " sequence {} keep-from {} ticket {}",
+        block.sequence, block.keep_from, block.ticket
+    )
 }
 
 // What a slot of the log holds, and its check.
-fn show_slot(log: &[u8], slot: usize) {
-    field(b"; slot ", slot as u64);
-    if 8 <= slot {
-        return;
+fn show_slot(rt: &impl Print, log: &[u8], slot: usize) -> io::Result<()> {
+    print!(rt; "; slot {slot}")?;
+    if 8 <= slot || log.len() < 4096 {
+        return Ok(());
     }
-    if log.len() < 4096 {
-        return;
+    let bytes = &log[slot * Block::SIZE..(slot + 1) * Block::SIZE];
+    match block::judge(bytes, 8, 4, slot as u64) {
+        Judged::Unused => print!(rt; " unused")?,
+        Judged::Damaged => print!(rt; " damaged")?,
+        Judged::Valid(block) => show_block(rt, block)?,
     }
-    let at = slot * Block::SIZE;
-    let judged = block::judge(&log[at..at + Block::SIZE], 8, 4, slot as u64);
-    match judged {
-        Judged::Unused => say(b" unused"),
-        Judged::Damaged => say(b" damaged"),
-        Judged::Valid(block) => show_block(block),
-    }
-    say(b" check");
-    hex(log[at + 508]);
-    hex(log[at + 509]);
-    hex(log[at + 510]);
-    hex(log[at + 511]);
+    print!(rt;
+        " check {:02X} {:02X} {:02X} {:02X}",
+        bytes[508], bytes[509], bytes[510], bytes[511]
+    )
 }
 
 // The first byte of each half of a page.
-fn show_page(areas: &[u8], page: usize) {
-    field(b"; page ", page as u64);
-    if 4 <= page {
-        return;
-    }
-    if areas.len() < 4096 {
-        return;
+fn show_page(rt: &impl Print, areas: &[u8], page: usize) -> io::Result<()> {
+    print!(rt; "; page {page}")?;
+    if 4 <= page || areas.len() < 4096 {
+        return Ok(());
     }
     let at = page * Block::PAGE;
-    say(b" halves ");
-    show_byte(areas[at]);
-    say(b" ");
-    show_byte(areas[at + Block::SIZE]);
+    print!(rt; " halves {} {}", areas[at], areas[at + Block::SIZE])
 }
 
 // Where a cleaning is.
-fn show_cleaning(cleaning: Cleaning) {
+fn show_cleaning(rt: &impl Print, cleaning: Cleaning) -> io::Result<()> {
     match cleaning {
-        Cleaning::Idle => say(b"; idle"),
-        Cleaning::First(page) => field(b"; first of ", page as u64),
-        Cleaning::Second(page) => field(b"; second of ", page as u64),
-        Cleaning::Third(page) => field(b"; third of ", page as u64),
+        Cleaning::Idle => print!(rt; "; idle"),
+        Cleaning::First(page) => print!(rt; "; first of {page}"),
+        Cleaning::Second(page) => print!(rt; "; second of {page}"),
+        Cleaning::Third(page) => print!(rt; "; third of {page}"),
     }
 }
 
 // A Log step, its answer, the slot that the next block belongs in, and the first bytes of the frames.
 fn logs(
+    rt: &impl Print,
     state: State,
     log: &mut [u8],
     home: &[u8],
     frames: &mut [u8],
     staging: &[u8],
     slot: usize,
-) -> State {
+) -> io::Result<State> {
     let outcome = store::log_step(state, log, home, frames, staging);
-    let answer = outcome.answer;
-    let after = outcome.state;
-    match answer {
-        Logged::Refused(refusal) => field(b"log step refused ", refusal.number()),
-        Logged::Stored => say(b"log step stored"),
-        Logged::Settled(ticket) => field(b"log step settled ", ticket),
+    match outcome.answer {
+        Ok(Logged::Stored) => print!(rt; "log step stored")?,
+        Ok(Logged::Settled(ticket)) => print!(rt; "log step settled {ticket}")?,
+        Err(refusal) => print!(rt; "log step refused {}", refusal.number())?,
     }
-    show_slot(log, slot);
+    show_slot(rt, log, slot)?;
     if 1025 <= frames.len() {
-        say(b"; frames ");
-        show_byte(frames[0]);
-        say(b" ");
-        show_byte(frames[1]);
-        say(b" ");
-        show_byte(frames[1024]);
+        print!(rt; "; frames {} {} {}", frames[0], frames[1], frames[1024])?;
     }
-    let cleaning = after.cleaning;
-    show_cleaning(cleaning);
-    say(b"\n");
-    after
+    show_cleaning(rt, outcome.state.cleaning)?;
+    println!(rt; "")?;
+    Ok(outcome.state)
 }
 
 // A Clean step, its answer, a slot and a page.
 fn cleans(
+    rt: &impl Print,
     state: State,
     log: &mut [u8],
     home: &mut [u8],
     frames: &[u8],
     slot: usize,
     page: usize,
-) -> State {
+) -> io::Result<State> {
     let outcome = store::clean_step(state, log, home, frames);
-    let answer = outcome.answer;
-    let after = outcome.state;
-    match answer {
-        Answer::Refused(refusal) => field(b"clean step refused ", refusal.number()),
-        Answer::Done => say(b"clean step done"),
+    match outcome.answer {
+        Ok(()) => print!(rt; "clean step done")?,
+        Err(refusal) => print!(rt; "clean step refused {}", refusal.number())?,
     }
-    show_slot(log, slot);
-    show_page(home, page);
-    let cleaning = after.cleaning;
-    show_cleaning(cleaning);
-    say(b"\n");
-    after
+    show_slot(rt, log, slot)?;
+    show_page(rt, home, page)?;
+    show_cleaning(rt, outcome.state.cleaning)?;
+    println!(rt; "")?;
+    Ok(outcome.state)
 }
 
 // Two staged updates of page 0: byte 0, and bytes 0 and 1.
@@ -205,24 +145,15 @@ fn state_of(
     let mut dirty = zero.dirty;
     dirty[0] = first_frame;
     dirty[1] = second_frame;
-    let staged = two_staged();
     let mut groups = zero.groups;
     groups[0] = size;
     State {
-        pages: 4,
-        slots: 8,
-        frames: 2,
-        next,
-        ticket,
-        dirty,
-        staged,
+        staged: two_staged(),
         groups,
         queued: if size == 0 { 0 } else { 1 },
         stored,
-        reserved: 0,
-        described: 0,
         cleaning,
-        copy: false,
+        ..State::idle(4, 8, 2, next, ticket, dirty)
     }
 }
 
@@ -232,36 +163,69 @@ fn nothing() -> Dirty {
 }
 
 // The log's part in the life of one transaction: worked cases 2 and 3 come out as blocks, then nothing is queued.
-fn life_logged(log: &mut [u8], home: &[u8], frames: &mut [u8], staging: &[u8]) -> State {
+fn life_logged(
+    rt: &impl Print,
+    log: &mut [u8],
+    home: &[u8],
+    frames: &mut [u8],
+    staging: &[u8],
+) -> io::Result<State> {
     let queued = state_of(1, 0, nothing(), nothing(), 1, 0, Cleaning::Idle);
-    let half = logs(queued, log, home, frames, staging, 1);
-    let dirty = logs(half, log, home, frames, staging, 2);
-    logs(dirty, log, home, frames, staging, 3)
+    let half = logs(rt, queued, log, home, frames, staging, 1)?;
+    let dirty = logs(rt, half, log, home, frames, staging, 2)?;
+    logs(rt, dirty, log, home, frames, staging, 3)
 }
 
 // The cleaning's part: the two halves, then worked case 4 as a block.
-fn life_cleaned(state: State, log: &mut [u8], home: &mut [u8], frames: &[u8]) -> State {
-    let second = cleans(state, log, home, frames, 3, 0);
-    let third = cleans(second, log, home, frames, 3, 0);
-    cleans(third, log, home, frames, 3, 0)
+fn life_cleaned(
+    rt: &impl Print,
+    state: State,
+    log: &mut [u8],
+    home: &mut [u8],
+    frames: &[u8],
+) -> io::Result<State> {
+    let second = cleans(rt, state, log, home, frames, 3, 0)?;
+    let third = cleans(rt, second, log, home, frames, 3, 0)?;
+    cleans(rt, third, log, home, frames, 3, 0)
 }
 
 // Once no page is dirty there is nothing to do; and an area of another length is told first.
-fn life_over(state: State, log: &mut [u8], short_log: &mut [u8], home: &mut [u8], frames: &[u8]) {
-    let same = cleans(state, log, home, frames, 4, 0);
-    cleans(same, short_log, home, frames, 4, 0);
+fn life_over(
+    rt: &impl Print,
+    state: State,
+    log: &mut [u8],
+    short_log: &mut [u8],
+    home: &mut [u8],
+    frames: &[u8],
+) -> io::Result<()> {
+    let same = cleans(rt, state, log, home, frames, 4, 0)?;
+    cleans(rt, same, short_log, home, frames, 4, 0)?;
+    Ok(())
 }
 
 // A group of two updates of one page, whose sequences wrap: the later update wins.
-fn wrapped(log: &mut [u8], home: &[u8], frames: &mut [u8], staging: &[u8]) {
+fn wrapped(
+    rt: &impl Print,
+    log: &mut [u8],
+    home: &[u8],
+    frames: &mut [u8],
+    staging: &[u8],
+) -> io::Result<()> {
     let queued = state_of(8, 1, nothing(), nothing(), 2, 0, Cleaning::Idle);
-    let one = logs(queued, log, home, frames, staging, 0);
-    let two = logs(one, log, home, frames, staging, 1);
-    logs(two, log, home, frames, staging, 2);
+    let one = logs(rt, queued, log, home, frames, staging, 0)?;
+    let two = logs(rt, one, log, home, frames, staging, 1)?;
+    logs(rt, two, log, home, frames, staging, 2)?;
+    Ok(())
 }
 
 // A half-stored group holds a clean block back, and its commit makes the cleaning of its page idle.
-fn overtaken(log: &mut [u8], home: &mut [u8], frames: &mut [u8], staging: &[u8]) {
+fn overtaken(
+    rt: &impl Print,
+    log: &mut [u8],
+    home: &mut [u8],
+    frames: &mut [u8],
+    staging: &[u8],
+) -> io::Result<()> {
     let cleaned = state_of(
         5,
         1,
@@ -271,12 +235,13 @@ fn overtaken(log: &mut [u8], home: &mut [u8], frames: &mut [u8], staging: &[u8])
         1,
         Cleaning::Third(0),
     );
-    let held = cleans(cleaned, log, home, frames, 5, 0);
-    logs(held, log, home, frames, staging, 5);
+    let held = cleans(rt, cleaned, log, home, frames, 5, 0)?;
+    logs(rt, held, log, home, frames, staging, 5)?;
+    Ok(())
 }
 
 // The page that an idle cleaning takes: of the smallest first group, and among equals the lowest.
-fn taken(log: &mut [u8], home: &mut [u8], frames: &[u8]) {
+fn taken(rt: &impl Print, log: &mut [u8], home: &mut [u8], frames: &[u8]) -> io::Result<()> {
     let oldest = state_of(
         6,
         2,
@@ -286,7 +251,7 @@ fn taken(log: &mut [u8], home: &mut [u8], frames: &[u8]) {
         0,
         Cleaning::Idle,
     );
-    cleans(oldest, log, home, frames, 6, 2);
+    cleans(rt, oldest, log, home, frames, 6, 2)?;
     let lowest = state_of(
         6,
         2,
@@ -296,11 +261,12 @@ fn taken(log: &mut [u8], home: &mut [u8], frames: &[u8]) {
         0,
         Cleaning::Idle,
     );
-    cleans(lowest, log, home, frames, 6, 1);
+    cleans(rt, lowest, log, home, frames, 6, 1)?;
+    Ok(())
 }
 
 // A clean block when the sequences are used up.
-fn used_up(log: &mut [u8], home: &mut [u8], frames: &[u8]) {
+fn used_up(rt: &impl Print, log: &mut [u8], home: &mut [u8], frames: &[u8]) -> io::Result<()> {
     let last = state_of(
         281474976710656,
         2,
@@ -313,31 +279,40 @@ fn used_up(log: &mut [u8], home: &mut [u8], frames: &[u8]) {
         0,
         Cleaning::Third(0),
     );
-    cleans(last, log, home, frames, 0, 0);
+    cleans(rt, last, log, home, frames, 0, 0)?;
+    Ok(())
 }
 
 // A state that is not sound: its ticket is not below next.
-fn not_sound(log: &mut [u8], home: &mut [u8], frames: &mut [u8], staging: &[u8]) {
+fn not_sound(
+    rt: &impl Print,
+    log: &mut [u8],
+    home: &mut [u8],
+    frames: &mut [u8],
+    staging: &[u8],
+) -> io::Result<()> {
     let unsound = state_of(3, 3, nothing(), nothing(), 1, 0, Cleaning::Idle);
-    logs(unsound, log, home, frames, staging, 3);
-    cleans(unsound, log, home, frames, 3, 0);
+    logs(rt, unsound, log, home, frames, staging, 3)?;
+    cleans(rt, unsound, log, home, frames, 3, 0)?;
+    Ok(())
 }
 
-fn main() {
-    let mut log = [0u8; 4096];
-    let mut home = [7u8; 4096];
-    let mut frames = [9u8; 2048];
-    let mut staging = [0u8; 944];
+fn main(rt: HostRuntime) -> io::Result<()> {
+    let mut log = [0; 4096];
+    let mut home = [7; 4096];
+    let mut frames = [9; 2048];
+    let mut staging = [0; 944];
     staging[0] = 42;
     staging[472] = 50;
     staging[473] = 51;
-    let dirty = life_logged(&mut log, &home, &mut frames, &staging);
-    let clean = life_cleaned(dirty, &mut log, &mut home, &frames);
-    let mut short_log = [0u8; 3584];
-    life_over(clean, &mut log, &mut short_log, &mut home, &frames);
-    wrapped(&mut log, &home, &mut frames, &staging);
-    overtaken(&mut log, &mut home, &mut frames, &staging);
-    taken(&mut log, &mut home, &frames);
-    used_up(&mut log, &mut home, &frames);
-    not_sound(&mut log, &mut home, &mut frames, &staging);
+    let dirty = life_logged(&rt, &mut log, &home, &mut frames, &staging)?;
+    let clean = life_cleaned(&rt, dirty, &mut log, &mut home, &frames)?;
+    let mut short_log = [0; 3584];
+    life_over(&rt, clean, &mut log, &mut short_log, &mut home, &frames)?;
+    wrapped(&rt, &mut log, &home, &mut frames, &staging)?;
+    overtaken(&rt, &mut log, &mut home, &mut frames, &staging)?;
+    taken(&rt, &mut log, &mut home, &frames)?;
+    used_up(&rt, &mut log, &mut home, &frames)?;
+    not_sound(&rt, &mut log, &mut home, &mut frames, &staging)?;
+    Ok(())
 }

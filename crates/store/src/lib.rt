@@ -16,9 +16,11 @@
 //
 // Each call's whole promise is the file of promises/specs that its comment names.
 //
-// A call changes a copy of its state and hands that back: a state of 880 bytes that came back from the crates below would be copied by each.
+// A call changes a copy of its state in place and hands that back: a state of 880 bytes that came back from the crates below would be copied
+// by each. The change stands in a function of its own, which ends at the first refusal.
 #![tactic(auto)]
 
+ghost use Rattle.promises.specs.Answers.{refusal_in};
 ghost use Rattle.promises.specs.Format.{Formats};
 ghost use Rattle.promises.specs.Open.{Opens};
 ghost use Rattle.promises.specs.Begin.{Begins};
@@ -31,10 +33,7 @@ ghost use Rattle.promises.specs.Settled.{Settles};
 ghost use Rattle.queueing.specs.Queueing.{update_of};
 
 use block::Block;
-use promises::{
-    Answer, Cleaning, Dirty, EndOutcome, Ended, LogOutcome, Logged, OpenOutcome, Outcome, Refusal,
-    Staged, Standing, State,
-};
+use promises::{Cleaning, Dirty, Logged, Outcome, Page, Refusal, Staged, State, Stop};
 use queueing::{deciding, finding};
 
 // Format: makes a new log. All its bytes become zero; what the old log knew is gone.
@@ -45,14 +44,12 @@ use queueing::{deciding, finding};
 // Refused: 1 `log` is not 8 to 1,024 whole slots of 512 bytes.
 //
 // Promise: promises/specs/Format.antt.
-pub fn format(log: &mut [u8]) -> Answer
+pub fn format(log: &mut [u8]) -> Result<(), Refusal>
     ensures { Formats log.old result log.new }
 {
-    let number = deciding::format_refusal(log.len());
-    if number == 0 {
-        area::clear(log);
-    }
-    Answer::of_number(number)
+    deciding::format_refusal(log.len())?;
+    area::clear(log);
+    Ok(())
 }
 
 // Open: reads the log, finds what was committed, and gives the state to go on with. To be called at the start, and after every power cut.
@@ -69,7 +66,7 @@ pub fn format(log: &mut [u8]) -> Answer
 // it was.
 //
 // Promise: promises/specs/Open.antt.
-pub fn open(log: &[u8], home: &[u8], frames: &mut [u8], staging: &[u8]) -> OpenOutcome
+pub fn open(log: &[u8], home: &[u8], frames: &mut [u8], staging: &[u8]) -> Outcome<u64, Stop>
     ensures { Opens log.now home.now frames.old staging.now result frames.new }
 {
     opening::open(log, home, frames, staging)
@@ -84,20 +81,25 @@ pub fn open(log: &[u8], home: &[u8], frames: &mut [u8], staging: &[u8]) -> OpenO
 // steps, then call again (`waiting::begin` does).
 //
 // Promise: promises/specs/Begin.antt.
-pub fn begin(state: State, u: usize) -> Outcome
+pub fn begin(state: State, u: usize) -> Outcome<(), Refusal>
     ensures { Begins state u result }
 {
     let mut after = state;
-    let verdict = soundness::checked_as(after, false);
-    let number = deciding::begin_refusal(verdict, after, u);
-    if number == 0 {
-        after.reserved = u;
-        after.described = 0;
-    }
+    let answer = reserve(&mut after, u);
     Outcome {
         state: after,
-        answer: Answer::of_number(number),
+        answer,
     }
+}
+
+fn reserve(state: &mut State, u: usize) -> Result<(), Refusal>
+    ensures { Begins state.old u (record { state = state.new; answer = result }) }
+{
+    let verdict = soundness::checked_as(*state, false);
+    deciding::begin_refusal(verdict, *state, u)?;
+    state.reserved = u;
+    state.described = 0;
+    Ok(())
 }
 
 // Describe: adds one update to the open transaction: `bytes` for `page`, from `offset` on.
@@ -116,41 +118,41 @@ pub fn describe(
     page: usize,
     offset: usize,
     bytes: &[u8],
-) -> Outcome
+) -> Outcome<(), Refusal>
     ensures { Describes state (update_of page offset bytes.now) staging.old result staging.new }
 {
     let mut after = state;
-    let verdict = soundness::checked_as(after, false);
-    let number = deciding::describe_refusal(
-        verdict.sound,
-        after,
-        staging.len(),
-        page,
-        offset,
-        bytes.len(),
-    );
-    if number == 0 {
-        let sums = verdict.sums;
-        let count = sums.queued + after.described;
-        let waiting = after.staged;
-        let area = finding::free_area(waiting, count, after.frames);
-        let start = soundness::wide::byte(area) * Block::NEW_BYTES;
-        area::copy_part(staging, start, bytes, 0, bytes.len());
-        let mut staged = waiting;
-        staged[count] = Staged {
-            page: page as u16,
-            offset: offset as u16,
-            length: bytes.len() as u16,
-            area,
-        };
-        let described = after.described + 1;
-        after.staged = staged;
-        after.described = described;
-    }
+    let answer = stage(&mut after, staging, page, offset, bytes);
     Outcome {
         state: after,
-        answer: Answer::of_number(number),
+        answer,
     }
+}
+
+fn stage(
+    state: &mut State,
+    staging: &mut [u8],
+    page: usize,
+    offset: usize,
+    bytes: &[u8],
+) -> Result<(), Refusal>
+    ensures { Describes state.old (update_of page offset bytes.now) staging.old (record { state = state.new; answer = result }) staging.new }
+{
+    let verdict = soundness::checked_as(*state, false);
+    let length = bytes.len();
+    let sums = deciding::describe_refusal(verdict, *state, staging.len(), page, offset, length)?;
+    let count = sums.queued + state.described;
+    let area = finding::free_area(state.staged, count, state.frames);
+    let start = usize::from(area) * Block::NEW_BYTES;
+    area::copy_part(staging, start, bytes, 0, length);
+    state.staged[count] = Staged {
+        page: page as u16,
+        offset: offset as u16,
+        length: length as u16,
+        area,
+    };
+    state.described += 1;
+    Ok(())
 }
 
 // End: ends the open transaction. It joins the queue, and its ticket is answered, one above the last ended one.
@@ -162,31 +164,28 @@ pub fn describe(
 // transaction stays open.
 //
 // Promise: promises/specs/End.antt.
-pub fn end(state: State) -> EndOutcome
+pub fn end(state: State) -> Outcome<u64, Refusal>
     ensures { Ends state result }
 {
     let mut after = state;
-    let verdict = soundness::checked_as(after, false);
-    let number = deciding::end_refusal(verdict.sound, after);
-    if number != 0 {
-        let refusal = Refusal::of_number(number);
-        return EndOutcome {
-            state: after,
-            answer: Ended::Refused(refusal),
-        };
-    }
-    let queued = after.queued;
-    let ticket = after.ticket + queued as u64 + 1;
-    let mut groups = after.groups;
-    groups[queued] = after.described as u8;
-    after.groups = groups;
-    after.queued = queued + 1;
-    after.reserved = 0;
-    after.described = 0;
-    EndOutcome {
+    let answer = enqueue(&mut after);
+    Outcome {
         state: after,
-        answer: Ended::Ticket(ticket),
+        answer,
     }
+}
+
+fn enqueue(state: &mut State) -> Result<u64, Refusal>
+    ensures { Ends state.old (record { state = state.new; answer = result }) }
+{
+    let verdict = soundness::checked_as(*state, false);
+    deciding::end_refusal(verdict, *state)?;
+    let ticket = state.ticket + state.queued as u64 + 1;
+    state.groups[state.queued] = state.described as u8;
+    state.queued += 1;
+    state.reserved = 0;
+    state.described = 0;
+    Ok(ticket)
 }
 
 // Log step: stores one block of the oldest queued transaction in its slot of the log: its next update, or, once all are stored, its commit.
@@ -206,58 +205,56 @@ pub fn log_step(
     home: &[u8],
     frames: &mut [u8],
     staging: &[u8],
-) -> LogOutcome
+) -> Outcome<Logged, Refusal>
     ensures { LogSteps state log.old home.now frames.old staging.now result log.new frames.new }
 {
     let mut after = state;
-    let verdict = soundness::checked_as(after, false);
-    let sums = verdict.sums;
-    let number = logging::log_refusal(
-        verdict.sound,
-        after,
+    let answer = log_next(&mut after, log, home, frames, staging);
+    Outcome {
+        state: after,
+        answer,
+    }
+}
+
+fn log_next(
+    state: &mut State,
+    log: &mut [u8],
+    home: &[u8],
+    frames: &mut [u8],
+    staging: &[u8],
+) -> Result<Logged, Refusal>
+    ensures { LogSteps state.old log.old home.now frames.old staging.now (record { state = state.new; answer = result }) log.new frames.new }
+{
+    let verdict = soundness::checked_as(*state, false);
+    let sums = logging::log_refusal(
+        verdict,
+        *state,
         log.len(),
         home.len(),
         frames.len(),
         staging.len(),
-    );
-    if number != 0 {
-        let refusal = Refusal::of_number(number);
-        return LogOutcome {
-            state: after,
-            answer: Logged::Refused(refusal),
-        };
+    )?;
+    let keep_from = state.next - sums.held as u64;
+    let size = logging::group_size(*state);
+    if state.stored < size {
+        logging::store_update(*state, log, staging, keep_from);
+        state.next += 1;
+        state.stored += 1;
+        return Ok(Logged::Stored);
     }
-    let keep_from = after.next - sums.held as u64;
-    let next = after.next + 1;
-    let size = logging::group_size(after);
-    if after.stored < size {
-        logging::store_update(after, log, staging, keep_from);
-        let stored = after.stored + 1;
-        after.next = next;
-        after.stored = stored;
-        return LogOutcome {
-            state: after,
-            answer: Logged::Stored,
-        };
-    }
-    let dirty = logging::store_commit(after, log, home, frames, staging, keep_from);
-    let waiting = after.staged;
-    let sizes = after.groups;
-    let staged = queue::staged_shifted(waiting, size);
-    let groups = queue::groups_shifted(sizes);
-    let cleaning = queue::cleaning_left(after, size);
-    after.next = next;
-    after.dirty = dirty;
-    after.staged = staged;
-    after.groups = groups;
-    after.queued = after.queued - 1;
-    after.stored = 0;
-    after.ticket = after.ticket + 1;
-    let ticket = after.ticket;
-    LogOutcome {
-        state: after.with_cleaning(cleaning),
-        answer: Logged::Settled(ticket),
-    }
+    let dirty = logging::store_commit(*state, log, home, frames, staging, keep_from);
+    let staged = queue::shifted(state.staged, size);
+    let groups = queue::shifted(state.groups, 1);
+    let cleaning = queue::cleaning_left(*state, size);
+    state.next += 1;
+    state.dirty = dirty;
+    state.staged = staged;
+    state.groups = groups;
+    state.cleaning = cleaning;
+    state.queued -= 1;
+    state.stored = 0;
+    state.ticket += 1;
+    Ok(Logged::Settled(state.ticket))
 }
 
 // Clean step: makes one store of a cleaning, which brings a dirty page home in three: its first half, its second half, its clean block in the log.
@@ -272,73 +269,84 @@ pub fn log_step(
 // first; 6 next + W + (R + 1 if a transaction is open) is 2^48.
 //
 // Promise: promises/specs/CleanStep.antt.
-pub fn clean_step(state: State, log: &mut [u8], home: &mut [u8], frames: &[u8]) -> Outcome
+pub fn clean_step(
+    state: State,
+    log: &mut [u8],
+    home: &mut [u8],
+    frames: &[u8],
+) -> Outcome<(), Refusal>
     ensures { CleanSteps state log.old home.old frames.now result log.new home.new }
 {
     let mut after = state;
-    let verdict = soundness::checked_as(after, false);
-    let number = cleaning::clean_refusal(verdict, after, log.len(), home.len(), frames.len());
-    let mut cleaning = after.cleaning;
-    if number == 0 {
-        let sums = verdict.sums;
-        let count = sums.dirty;
-        let choice = cleaning::frame_to_clean(after, count);
-        let entry = choice.entry;
-        let made = cleaning::stores_made(after);
-        if made == 2 {
-            cleaning::store_clean(after, count, log, frames, choice);
-            let frame = choice.frame;
-            let mut dirty = after.dirty;
-            dirty[frame] = Dirty { page: 0, first: 0 };
-            let next = after.next + 1;
-            after.dirty = dirty;
-            after.next = next;
-            cleaning = Cleaning::Idle;
-        } else if made == 1 {
+    let answer = clean_next(&mut after, log, home, frames);
+    Outcome {
+        state: after,
+        answer,
+    }
+}
+
+fn clean_next(
+    state: &mut State,
+    log: &mut [u8],
+    home: &mut [u8],
+    frames: &[u8],
+) -> Result<(), Refusal>
+    ensures { CleanSteps state.old log.old home.old frames.now (record { state = state.new; answer = result }) log.new home.new }
+{
+    let verdict = soundness::checked_as(*state, false);
+    let sums = cleaning::clean_refusal(verdict, *state, log.len(), home.len(), frames.len())?;
+    let choice = cleaning::frame_to_clean(*state, sums.dirty);
+    match state.cleaning {
+        Cleaning::Third(_) => {
+            cleaning::store_clean(*state, sums.dirty, log, frames, choice);
+            state.dirty[choice.frame] = Dirty { page: 0, first: 0 };
+            state.next += 1;
+            state.cleaning = Cleaning::Idle;
+        }
+        Cleaning::Second(_) => {
             cleaning::store_second(home, frames, choice);
-            cleaning = Cleaning::Third(entry.page);
-        } else {
+            state.cleaning = Cleaning::Third(choice.entry.page);
+        }
+        _ => {
             cleaning::store_first(home, frames, choice);
-            cleaning = Cleaning::Second(entry.page);
+            state.cleaning = Cleaning::Second(choice.entry.page);
         }
     }
-    Outcome {
-        state: after.with_cleaning(cleaning),
-        answer: Answer::of_number(number),
-    }
+    Ok(())
 }
 
 // Read: the 1,024 committed bytes of a page, as a part of `home` or of `frames`: nothing is copied.
 //
-// What is open or queued does not show. `refusal` is set by every call: to 0, or to the refusal's number. A copy's state is taken too, with the
-// copy's home and frames.
+// What is open or queued does not show. A copy's state is taken too, with the copy's home and frames.
 //
 // Refused, tested in this order: 2 the state is sound neither as a desk's nor as a copy's; 1 an area has another length than at Open; 3 `page`
 // is not below P. The part is then empty, at the start of `home`.
 //
 // Promise: promises/specs/Read.antt.
-pub fn read<'a>(
-    state: State,
-    home: &'a [u8],
-    frames: &'a [u8],
-    page: usize,
-    refusal: &mut u64,
-) -> &'a [u8]
-    ensures { Reads state home.entry frames.entry page refusal.new result }
+pub fn read<'a>(state: State, home: &'a [u8], frames: &'a [u8], page: usize) -> Page<'a>
+    ensures { Reads state home.entry frames.entry page (refusal_in result.answer) result.bytes }
 {
     let verdict = soundness::checked_as(state, state.copy);
-    let number = deciding::read_refusal(verdict.sound, state, home.len(), frames.len(), page);
-    *refusal = number;
-    if number != 0 {
-        return &home[..0];
+    let tested = deciding::read_refusal(verdict, state, home.len(), frames.len(), page);
+    if let Err(refusal) = tested {
+        return Page {
+            bytes: &home[..0],
+            answer: Err(refusal),
+        };
     }
     let frame = finding::frame_of(state, page as u16);
     if frame < state.frames {
         let start = frame * Block::PAGE;
-        return &frames[start..start + Block::PAGE];
+        return Page {
+            bytes: &frames[start..start + Block::PAGE],
+            answer: Ok(()),
+        };
     }
     let start = page * Block::PAGE;
-    &home[start..start + Block::PAGE]
+    Page {
+        bytes: &home[start..start + Block::PAGE],
+        answer: Ok(()),
+    }
 }
 
 // Settled: whether a ticket is committed. Once it is, it stays so over every power cut. A copy's state is taken too: whether the commit is in
@@ -347,17 +355,10 @@ pub fn read<'a>(
 // Refused, tested in this order: 2 the state is sound neither as a desk's nor as a copy's; 3 `ticket` is 0 or above the last ended one.
 //
 // Promise: promises/specs/Settled.antt.
-pub fn settled(state: State, ticket: u64) -> Standing
+pub fn settled(state: State, ticket: u64) -> Result<bool, Refusal>
     ensures { Settles state ticket result }
 {
-    let judged = soundness::checked_as(state, state.copy);
-    let number = deciding::settled_refusal(judged.sound, state, ticket);
-    if number != 0 {
-        let refusal = Refusal::of_number(number);
-        return Standing::Refused(refusal);
-    }
-    if ticket <= state.ticket {
-        return Standing::Yes;
-    }
-    Standing::No
+    let verdict = soundness::checked_as(state, state.copy);
+    deciding::settled_refusal(verdict, state, ticket)?;
+    Ok(ticket <= state.ticket)
 }

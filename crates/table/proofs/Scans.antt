@@ -1,16 +1,15 @@
 -- Loops over the entries of a table: what is left to see from an index on.
 -- Assumes nothing.
 use mathlib.Core.Path.{◌≡◌, refl, sym, ap, ◌∙◌}
-use mathlib.Core.Bool.{Bool, true, false, not, ◌&&◌}
+use mathlib.Core.Bool.{Bool}
 use mathlib.Core.List.{List, [], ◌∷◌, map}
 use Prim.Native.Nat.{ℕ, ◌+◌, ◌≤◌, ◌<◌, min}
 use native.Mathlib.Numerals.{add-one}
 use native.Mathlib.Omega.{arith}
-use lib.Dec.{eqb, ltb}
+use lib.Dec.{eqb}
 use lib.ListN.{length, take, drop, get_or, drop_of_length-le, length-map}
 use lib.Seq.{drop-cons, get_or-take, length-take-le}
-use borrow.Author.Tests.{eq-eqb, ne_eqb, eqb-false, ltb-true, ltb-false}
-use Rattle.area.proofs.Laws.{by_cases}
+use borrow.Author.Tests.{eq-eqb, ne_eqb}
 use Rattle.promises.specs.declared.Dirty.{Dirty}
 use Rattle.promises.specs.Contents.{unless}
 use Rattle.promises.specs.Sums.{first_groups, smallest}
@@ -59,25 +58,14 @@ smallest-min a x (y ∷ ys) = ap (min y) (smallest-min a x ys) ∙ swap y a (sma
     swap : (p q r : ℕ) → min p (min q r) ≡ min q (min p r)
     swap p q r = omega arith
 
--- the test of one entry against the lowest so far
+-- the lowest so far, where the next entry is in use or not
 module _ (low : ℕ) (l : List Dirty) (i : ℕ) (h : i < length l) where
-  pub lower : (not (eqb (get_or l i free).first 0) && ltb (get_or l i free).first low) ≡ true
-      → (smallest (get_or l i free).first (first_groups (drop (i + 1) l)) ≡ smallest low (first_groups (drop i l))) × ((get_or l i free).first < low)
-  lower e =
-      by_cases (eqb (get_or l i free).first 0)
-      (λ t. let z : ◌≡◌ {A = Bool} false true = rw t at e in let y : ◌≡◌ {A = ℕ} 0 1 = cc in absurd (omega arith))
-      (λ t. let b : (get_or l i free).first < low = ltb-true _ _ (rw t at e) in
-      let m : min (get_or l i free).first low ≡ (get_or l i free).first = omega arith in
-      (sym (ap (smallest low) (groups-more l i h (eqb-false _ _ t)) ∙ sym (smallest-min (get_or l i free).first low (first_groups (drop (i + 1) l))) ∙ ap (λ (x : ℕ). smallest x (first_groups (drop (i + 1) l))) m), b))
+  pub smallest-more : ((get_or l i free).first ≡ 0 → ⊥) → smallest (min low (get_or l i free).first) (first_groups (drop (i + 1) l)) ≡ smallest low (first_groups (drop i l))
+  smallest-more n =
+      let m : min low (get_or l i free).first ≡ min (get_or l i free).first low = omega arith in
+      ap (λ (x : ℕ). smallest x (first_groups (drop (i + 1) l))) m
+      ∙ smallest-min (get_or l i free).first low (first_groups (drop (i + 1) l))
+      ∙ sym (ap (smallest low) (groups-more l i h n))
 
-  pub not_lower : (not (eqb (get_or l i free).first 0) && ltb (get_or l i free).first low) ≡ false
-      → smallest low (first_groups (drop (i + 1) l)) ≡ smallest low (first_groups (drop i l))
-  not_lower e =
-      by_cases (eqb (get_or l i free).first 0)
-      (λ t. sym (ap (smallest low) (groups-same l i h (eqb-zero _ t))))
-      (λ t. let b : low ≤ (get_or l i free).first = ltb-false _ _ (rw t at e) in
-      let m : min (get_or l i free).first low ≡ low = omega arith in
-      sym (ap (smallest low) (groups-more l i h (eqb-false _ _ t)) ∙ sym (smallest-min (get_or l i free).first low (first_groups (drop (i + 1) l))) ∙ ap (λ (x : ℕ). smallest x (first_groups (drop (i + 1) l))) m))
-    where
-      eqb-zero : (x : ℕ) → eqb x 0 ≡ true → x ≡ 0
-      eqb-zero x t = borrow.Author.Tests.eqb-true x 0 t
+  pub smallest-same : (get_or l i free).first ≡ 0 → smallest low (first_groups (drop (i + 1) l)) ≡ smallest low (first_groups (drop i l))
+  smallest-same e = sym (ap (smallest low) (groups-same l i h e))

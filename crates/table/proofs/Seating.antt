@@ -1,26 +1,33 @@
 -- Seats as a table: each seat is its frame's entry, and what changes a seat changes the entry.
 -- Assumes nothing.
+use Rattle.std.specs.Prelude.{Option, Some, None, position, count_by}
+use Rattle.std.proofs.lemmas.Bool.{le-leb, lt-leb}
+use Rattle.std.specs.Option.{unwrap_or}
+use Rattle.std.specs.List.{position_or_len}
+use Rattle.std.proofs.lemmas.List.Recursion.{is_position_or_len, is_count_by}
+use Rattle.std.proofs.lemmas.List.Sums.{prefix_len-le-length}
 use mathlib.Core.Path.{◌≡◌, refl, sym, ap, ◌∙◌, subst}
-use mathlib.Core.Bool.{Bool, true, false, not, ◌&&◌}
+use mathlib.Core.Bool.{Bool, true, false, cond, not, ◌&&◌}
 use mathlib.Core.List.{List, [], ◌∷◌, ◌++◌, map, append_assoc, map-append}
-use Prim.Native.Nat.{ℕ, zero, suc, ◌+◌, ◌-◌, ◌*◌, ◌/◌, ◌%◌, ◌≤◌, ◌<◌}
+use Prim.Native.Nat.{ℕ, zero, suc, ◌+◌, ◌-◌, ◌*◌, ◌/◌, ◌%◌, ◌≤◌, ◌<◌, min}
 use native.Mathlib.Numerals.{add-one}
 use native.Mathlib.Omega.{arith}
 use lib.Dec.{eqb, ltb, leb}
-use lib.ListN.{length, take, drop, get_or, set, replicate, length-append, length-map, length-set, length-replicate, replicate-append-replicate, drop_of_length-le, get_or-append, get_or-map}
-use lib.Seq.{drop-cons, take_at, drop_at, set_at, take-suc, take-length, length-take-le, set-append_left}
-use borrow.Author.Tests.{lt-ltb, le-ltb, eq-eqb, ne_eqb, eqb-true, eqb-false, leb-true, leb-false}
-use Rattle.area.proofs.Laws.{by_cases, either, get_d-all, map-set}
+use lib.ListN.{length, take, drop, get_or, set, replicate, length-append, length-map, length-set, length-replicate, replicate-append-replicate, get_or-append, get_or-map}
+use lib.Seq.{take_at, drop_at, set_at, take-suc, take-length, length-take-le, set-append_left}
+use borrow.Author.Tests.{lt-ltb, le-ltb, eq-eqb, ne_eqb}
+use Rattle.area.proofs.Laws.{by-eq, either, get_d-all, map-set}
 use Rattle.area.specs.Part.{splice}
 use Rattle.promises.specs.declared.Dirty.{Dirty}
 use Rattle.promises.specs.Areas.{page_at}
+use Rattle.promises.specs.Contents.{unless}
 use Rattle.promises.specs.Sums.{first_groups, smallest}
 use Rattle.table.specs.declared.Table.{Table}
 use Rattle.table.specs.Search.{is_free, place_of, entries_of, seat_of}
 use Rattle.promises.specs.States.{free, is_of}
 use Rattle.table.specs.Table.{Enters, Drops, with_dirty}
 use Rattle.table.specs.Seats.{entry_in, dirty_in, seated}
-use Rattle.table.proofs.Scans.{groups-more, groups-same, lower, not_lower}
+use Rattle.table.proofs.Scans.{smallest-more, smallest-same}
 use Rattle.table.proofs.Entries.{free-groups}
 use Rattle.table.proofs.Applying.{enters-used, enters-free, seat-held, seat-free, drops-not, drops-at}
 
@@ -58,49 +65,44 @@ entry_zero : (seat : ℕ) → (entry_in seat).first ≡ 0 → entry_in seat ≡ 
 entry_zero seat z = either seat 65536 (λ h. entry-below seat h) (λ h. absurd (used-above seat h (sym (entry_first seat) ∙ z)))
 
 -- the code's tests of a seat
-pub seat-of : (page seat : ℕ) (b : Bool) → (leb 65536 seat && eqb (seat % 65536) page) ≡ b → is_of page (entry_in seat) ≡ b
-seat-of page seat b e =
-    by_cases (leb 65536 seat)
-    (λ t. let f : (true && eqb (seat % 65536) page) ≡ b = rw t at e in
-    ap (is_of page) (entry-above seat (leb-true _ _ t))
-    ∙ ap (λ (x : Bool). not x && eqb page (seat % 65536)) (ne_eqb (seat / 65536) 0 (used-above seat (leb-true _ _ t))) ∙ same ∙ f)
-    (λ t. let f : (false && eqb (seat % 65536) page) ≡ b = rw t at e in
-    ap (is_of page) (entry-below seat (leb-false _ _ t)) ∙ f)
-  where
-    same : eqb page (seat % 65536) ≡ eqb (seat % 65536) page
-    same =
-        by_cases (eqb (seat % 65536) page)
-        (λ t. eq-eqb page (seat % 65536) (sym (eqb-true (seat % 65536) page t)) ∙ sym t)
-        (λ t. ne_eqb page (seat % 65536) (λ q. eqb-false (seat % 65536) page t (sym q)) ∙ sym t)
+pub page-test : (page seat : ℕ) → is_of page (entry_in seat) ≡ (leb 65536 seat && eqb (seat % 65536) page)
+page-test page seat =
+    either seat 65536
+    (λ h. ap (is_of page) (entry-below seat h) ∙ sym (ap (λ (x : Bool). x && eqb (seat % 65536) page) (lt-leb 65536 seat h)))
+    (λ h. ap (is_of page) (entry-above seat h)
+    ∙ ap (λ (x : Bool). not x && eqb page (seat % 65536)) (ne_eqb (seat / 65536) 0 (used-above seat h))
+    ∙ by-eq page (seat % 65536) (λ e. eq-eqb _ _ e ∙ sym (eq-eqb _ _ (sym e))) (λ n. ne_eqb _ _ n ∙ sym (ne_eqb _ _ (λ q. n (sym q))))
+    ∙ sym (ap (λ (x : Bool). x && eqb (seat % 65536) page) (le-leb 65536 seat h)))
 
-pub seat-free-below : (seat : ℕ) → seat < 65536 → is_free (entry_in seat) ≡ true
-seat-free-below seat h = ap is_free (entry-below seat h)
-
-pub seat-used-above : (seat : ℕ) → 65536 ≤ seat → is_free (entry_in seat) ≡ false
-seat-used-above seat h = ap is_free (entry-above seat h) ∙ ne_eqb _ _ (used-above seat h)
+pub free-test : (seat : ℕ) → is_free (entry_in seat) ≡ ltb seat 65536
+free-test seat =
+    either seat 65536
+    (λ h. ap is_free (entry-below seat h) ∙ sym (lt-ltb seat 65536 h))
+    (λ h. ap is_free (entry-above seat h) ∙ ne_eqb _ _ (used-above seat h) ∙ sym (le-ltb seat 65536 h))
 
 -- ---- searches among the seats
 
-module _ (test : Dirty → Bool) (seats : List ℕ) (i : ℕ) where
-  next : i < length seats → drop i (map entry_in seats) ≡ entry_in (get_or seats i 0) ∷ drop (i + 1) (map entry_in seats)
-  next h =
-      rw add-one (drop-cons (map entry_in seats) i (entry_in 0) (omega (arith, length-map seats entry_in))
-      ∙ ap (λ (d : Dirty). d ∷ drop (suc i) (map entry_in seats)) (get_or-map entry_in seats i 0))
+-- what `position` finds, or else the count of frames, is the place among the entries
+pub place-found : (test : Dirty → Bool) (seats : List ℕ) (found : Option ℕ) (r : ℕ) → found ≡ position (λ s. test (entry_in s)) seats
+    → r ≡ unwrap_or found (length seats) → (r ≡ place_of test (map entry_in seats)) × (r ≤ length seats)
+unfolding place_of
+place-found test seats found r e f =
+    either place (length seats)
+    (λ h. let w : r ≡ place = at-place true (lt-ltb _ _ h) in (w ∙ sym same, omega arith))
+    (λ h. let w : r ≡ length seats = at-place false (le-ltb _ _ h) in (omega (arith, same, prefix_len-le-length (λ s. not (test (entry_in s))) seats), omega arith))
+  where
+    place : ℕ
+    place = position_or_len (λ s. test (entry_in s)) seats
 
-  pub seek_hit : i < length seats → test (entry_in (get_or seats i 0)) ≡ true → place_of test (drop i (map entry_in seats)) ≡ 0
-  unfolding place_of
-  seek_hit h e = rw (next h, e)
+    same : place_of test (map entry_in seats) ≡ place
+    same = is_position_or_len (λ l. place_of test (map entry_in l)) (λ s. test (entry_in s)) refl (λ x l. grind arith) seats
 
-  pub seek-miss : i < length seats → test (entry_in (get_or seats i 0)) ≡ false
-      → place_of test (drop i (map entry_in seats)) ≡ suc (place_of test (drop (i + 1) (map entry_in seats)))
-  unfolding place_of
-  seek-miss h e = rw (next h, e)
+    chosen : (b : Bool) → unwrap_or (cond b (Some place) None) (length seats) ≡ cond b place (length seats)
+    chosen true = refl
+    chosen false = refl
 
-  pub seek-end : length seats ≤ i → place_of test (drop i (map entry_in seats)) ≡ 0
-  unfolding place_of
-  seek-end h =
-      let k : length (map entry_in seats) ≤ i = omega (arith, length-map seats entry_in) in
-      rw (drop_of_length-le (map entry_in seats) k)
+    at-place : (b : Bool) → ltb place (length seats) ≡ b → r ≡ cond b place (length seats)
+    at-place b t = f ∙ ap (λ (o : Option ℕ). unwrap_or o (length seats)) e ∙ ap (λ (x : Bool). unwrap_or (cond x (Some place) None) (length seats)) t ∙ chosen b
 
 -- ---- the seats as a table
 
@@ -209,28 +211,28 @@ module _ (seats : List ℕ) (i : ℕ) (h : i < length seats) where
   first-at : (get_or (dirty_in seats) i free).first ≡ get_or seats i 0 / 65536
   first-at = ap (λ (d : Dirty). d.first) (entry_at seats i h) ∙ entry_first (get_or seats i 0)
 
-  pub count-used : 65536 ≤ get_or seats i 0 → length (first_groups (drop i (dirty_in seats))) ≡ suc (length (first_groups (drop (i + 1) (dirty_in seats))))
-  count-used u = ap length (groups-more (dirty_in seats) i in-dirty (λ z. used-above (get_or seats i 0) u (sym first-at ∙ z)))
+  module _ (low : ℕ) where
+    pub lower-seat : (get_or seats i 0 / 65536 ≡ 0 → ⊥)
+        → smallest (min low (get_or seats i 0 / 65536)) (first_groups (drop (i + 1) (dirty_in seats))) ≡ smallest low (first_groups (drop i (dirty_in seats)))
+    lower-seat n =
+        ap (λ (x : ℕ). smallest (min low x) (first_groups (drop (i + 1) (dirty_in seats)))) (sym first-at)
+        ∙ smallest-more low (dirty_in seats) i in-dirty (λ z. n (sym first-at ∙ z))
 
-  pub count-free : get_or seats i 0 < 65536 → length (first_groups (drop i (dirty_in seats))) ≡ length (first_groups (drop (i + 1) (dirty_in seats)))
-  count-free u = ap length (groups-same (dirty_in seats) i in-dirty (first-at ∙ free-below (get_or seats i 0) u))
+    pub same-seat : get_or seats i 0 / 65536 ≡ 0 → smallest low (first_groups (drop (i + 1) (dirty_in seats))) ≡ smallest low (first_groups (drop i (dirty_in seats)))
+    same-seat e = smallest-same low (dirty_in seats) i in-dirty (first-at ∙ e)
 
-module _ (low : ℕ) (seats : List ℕ) (i : ℕ) (h : i < length seats) where
-  abbrev first : ℕ
-  first = get_or seats i 0 / 65536
-
-  test_at : (b : Bool) → (not (eqb first 0) && ltb first low) ≡ b → (not (eqb (get_or (dirty_in seats) i free).first 0) && ltb (get_or (dirty_in seats) i free).first low) ≡ b
-  test_at b e = subst (λ (x : ℕ). (not (eqb x 0) && ltb x low) ≡ b) (sym (first-at seats i h)) e
-
-  pub lower-seat : (not (eqb first 0) && ltb first low) ≡ true
-      → (smallest first (first_groups (drop (i + 1) (dirty_in seats))) ≡ smallest low (first_groups (drop i (dirty_in seats)))) × (first < low)
-  lower-seat e =
-      subst (λ (x : ℕ). (smallest x (first_groups (drop (i + 1) (dirty_in seats))) ≡ smallest low (first_groups (drop i (dirty_in seats)))) × (x < low))
-      (first-at seats i h) (lower low (dirty_in seats) i (in-dirty seats i h) (test_at true e))
-
-  pub not-lower-seat : (not (eqb first 0) && ltb first low) ≡ false
-      → smallest low (first_groups (drop (i + 1) (dirty_in seats))) ≡ smallest low (first_groups (drop i (dirty_in seats)))
-  not-lower-seat e = not_lower low (dirty_in seats) i (in-dirty seats i h) (test_at false e)
+-- the count of those in use
+pub used-seats : (seats : List ℕ) → length (first_groups (dirty_in seats)) ≡ count_by (λ s. leb 65536 s) seats
+unfolding dirty_in first_groups
+used-seats seats = is_count_by (λ l. length (first_groups (map entry_in l ++ replicate (32 - length seats) free))) (λ s. leb 65536 s) (free-groups (32 - length seats) 0) step seats
+  where
+    step : (s : ℕ) (l : List ℕ) → length (first_groups (map entry_in (s ∷ l) ++ replicate (32 - length seats) free))
+        ≡ cond (leb 65536 s) (1 + length (first_groups (map entry_in l ++ replicate (32 - length seats) free))) (length (first_groups (map entry_in l ++ replicate (32 - length seats) free)))
+    step s l =
+        either s 65536
+        (λ h. rw (lt-leb 65536 s h) (ap (λ (d : Dirty). length (first_groups (d ∷ map entry_in l ++ replicate (32 - length seats) free))) (entry-below s h)))
+        (λ h. rw (le-leb 65536 s h) (ap (λ (d : Dirty). length (first_groups (d ∷ map entry_in l ++ replicate (32 - length seats) free))) (entry-above s h)
+        ∙ ap (λ (b : Bool). length (unless b (s / 65536) (first_groups (map entry_in l ++ replicate (32 - length seats) free)))) (ne_eqb (s / 65536) 0 (used-above s h)) ∙ omega arith))
 
 pub smallest-over : (low : ℕ) (seats : List ℕ) (i : ℕ) → i ≡ length seats → low ≡ smallest low (first_groups (drop i (dirty_in seats)))
 smallest-over low seats i e = none (first_groups (drop i (dirty_in seats))) (groups-over seats i e)

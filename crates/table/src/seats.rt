@@ -1,5 +1,5 @@
 // Dirty pages in place, a number for each frame: the seat. A seat is the frame's first group times 65,536 and its page; below 65,536
-// the frame is free.
+// the frame is free. It is one number in place of a struct for speed: a test of a frame reads one word.
 ghost use Rattle.std.specs.Prelude.{◌≡◌, Bool, false, not, map, ◌+◌, ◌*◌, ◌≤◌, ◌<◌, length};
 ghost use Rattle.block.specs.Sizes.{page_size, sequence_end};
 ghost use Rattle.promises.specs.Sums.{first_groups, smallest};
@@ -15,29 +15,20 @@ use promises::Dirty;
 pub fn frame_of(seats: &[u64], page: usize) -> usize
     ensures { (result ≡ place_of (is_of page) (map entry_in seats.now)) × (result ≤ length seats.now) }
 {
-    let mut i = 0;
-    while i < seats.len() {
-        let seat = seats[i];
-        if (65536 <= seat) & (seat % 65536 == page as u64) {
-            return i;
-        }
-        i += 1;
-    }
-    i
+    seats
+        .iter()
+        .position(|seat| 65536 <= *seat && *seat % 65536 == page as u64)
+        .unwrap_or(seats.len())
 }
 
 // The lowest free frame; the count of frames where there is none.
 fn free_frame(seats: &[u64]) -> usize
     ensures { (result ≡ place_of is_free (map entry_in seats.now)) × (result ≤ length seats.now) }
 {
-    let mut i = 0;
-    while i < seats.len() {
-        if seats[i] < 65536 {
-            return i;
-        }
-        i += 1;
-    }
-    i
+    seats
+        .iter()
+        .position(|seat| *seat < 65536)
+        .unwrap_or(seats.len())
 }
 
 // The frame that holds a page, else the lowest free one, else the count of frames.
@@ -103,13 +94,11 @@ pub fn oldest(seats: &[u64], own: u64) -> u64
     ensures { (result ≡ smallest own (first_groups (dirty_in seats.now))) × (result ≤ own) }
 {
     let mut low = own;
-    let mut i = 0;
-    while i < seats.len() {
-        let first = seats[i] / 65536;
-        if (first != 0) & (first < low) {
-            low = first;
+    for seat in seats {
+        let first = *seat / 65536;
+        if first != 0 {
+            low = low.min(first);
         }
-        i += 1;
     }
     low
 }
@@ -118,15 +107,7 @@ pub fn oldest(seats: &[u64], own: u64) -> u64
 pub fn dirty_pages(seats: &[u64]) -> usize
     ensures { (result ≡ length (first_groups (dirty_in seats.now))) × (result ≤ length seats.now) }
 {
-    let mut sum = 0;
-    let mut i = 0;
-    while i < seats.len() {
-        if 65536 <= seats[i] {
-            sum += 1;
-        }
-        i += 1;
-    }
-    sum
+    seats.iter().filter(|seat| 65536 <= **seat).count()
 }
 
 // The entry that a seat stands for.
@@ -148,10 +129,8 @@ pub fn entries(seats: &[u64]) -> [Dirty; 32]
     ensures { result ≡ dirty_in seats.now }
 {
     let mut dirty = [Dirty { page: 0, first: 0 }; 32];
-    let mut i = 0;
-    while i < seats.len() {
-        dirty[i] = entry(seats[i]);
-        i += 1;
+    for (i, seat) in seats.iter().enumerate() {
+        dirty[i] = entry(*seat);
     }
     dirty
 }

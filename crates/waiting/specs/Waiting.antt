@@ -1,11 +1,10 @@
 -- What a Begin that waits does: Begin; if it is refused as full, Log steps until one is refused, Clean steps until one is refused, and Begin
 -- again.
 -- Assumes nothing.
-use Rattle.std.specs.Prelude.{ℕ, zero, suc, ◌+◌, ◌*◌, ◌≤◌, ◌≡◌, true, List, []}
+use Rattle.std.specs.Prelude.{ℕ, zero, suc, ◌+◌, ◌*◌, ◌≤◌, ◌≡◌, true, List, [], Ok}
 use Rattle.block.specs.Sizes.{sequence_end}
 use Rattle.promises.specs.declared.State.{State}
-use Rattle.promises.specs.declared.Answer.TheVariants.{Done}
-use Rattle.promises.specs.Answers.{Reply, refuses, accepts, number_in, answered}
+use Rattle.promises.specs.Answers.{Reply, refuses, accepts, number_of, answered}
 use Rattle.promises.specs.Sums.{open_ones, waiting_blocks}
 use Rattle.promises.specs.Begin.{begin_refusal}
 use Rattle.promises.specs.Events.{World, Call, begin, log_step, clean_step}
@@ -39,7 +38,7 @@ pub data Tries (by : Steps) (u : ℕ) (world : World) : ℕ → ℕ → Reply �
 
 -- what `WaitBound` says of it, where it speaks: Begin is accepted in the end, after W Log steps and at most 3 F Clean steps
 pub record KeepsBound (world : World) (result : Waited) : Type 0 where
-  pub answer_is : result.answer ≡ Done
+  pub answer_is : result.answer ≡ Ok tt
   pub logged_is : result.logged ≡ waiting_blocks world.state
   pub cleaned_most : result.cleaned ≤ 3 * world.state.frames
 
@@ -49,15 +48,13 @@ pub record BeginsWaiting (world : World) (u : ℕ) (result : Waited) (world' : W
   pub tries : Tries promised u world result.logged result.cleaned (answered result.answer) world'
   pub bound : Fitting world → open_ones world.state ≡ [] → world.state.next + 4096 ≤ sequence_end → begin_refusal world.state u ≡ 5 → KeepsBound world result
 
--- Log steps until one is refused: the answer is its refusal
+-- Log steps until one is refused
 abbrev pub LogsAll : State → List ℕ → List ℕ → List ℕ → List ℕ → Stopped → List ℕ → List ℕ → Type 0
 LogsAll state log home frames staging result log' frames' =
-    (number_in (answered result.answer) ≡ 0 → ⊥)
-    × Until promised log_step result.count (world_of state log home frames staging) (number_in (answered result.answer)) (world_of result.state log' home frames' staging)
+    Until promised log_step result.count (world_of state log home frames staging) (number_of result.refusal) (world_of result.state log' home frames' staging)
 
 -- Clean steps until one is refused; they are lent no staging, so any will do
 abbrev pub CleansAll : State → List ℕ → List ℕ → List ℕ → Stopped → List ℕ → List ℕ → Type 0
 CleansAll state log home frames result log' home' =
-    (number_in (answered result.answer) ≡ 0 → ⊥)
-    × ((staging : List ℕ)
-    → Until promised clean_step result.count (world_of state log home frames staging) (number_in (answered result.answer)) (world_of result.state log' home' frames staging))
+    (staging : List ℕ)
+    → Until promised clean_step result.count (world_of state log home frames staging) (number_of result.refusal) (world_of result.state log' home' frames staging)

@@ -3,17 +3,15 @@
 // store's calls alone, as a program of the desk would be.
 #![tactic(auto)]
 
-ghost use Rattle.std.specs.Prelude.{◌≡◌};
-ghost use Rattle.promises.specs.Answers.{number_in, answered, log_answered};
 ghost use Rattle.waiting.specs.Waiting.{world_of, LogsAll, CleansAll, BeginsWaiting};
 
-use promises::{Answer, Logged, State};
+use promises::{Refusal, State};
 
 // Where steps of one kind ended: the state, the refusal that ended them, and how many were accepted before it.
 #[derive(Clone, Copy)]
 pub struct Stopped {
     pub state: State,
-    pub answer: Answer,
+    pub refusal: Refusal,
     pub count: u64,
 }
 
@@ -21,30 +19,9 @@ pub struct Stopped {
 #[derive(Clone, Copy)]
 pub struct Waited {
     pub state: State,
-    pub answer: Answer,
+    pub answer: Result<(), Refusal>,
     pub logged: u64,
     pub cleaned: u64,
-}
-
-// Log step's answer without the ticket.
-fn without_ticket(answer: Logged) -> Answer
-    ensures { number_in (answered result) ≡ number_in (log_answered answer) }
-{
-    match answer {
-        Logged::Refused(refusal) => Answer::Refused(refusal),
-        Logged::Stored => Answer::Done,
-        Logged::Settled(ticket) => Answer::Done,
-    }
-}
-
-// The number of an answer: 0 where the call was accepted, or the refusal's.
-fn number_of(answer: Answer) -> u64
-    ensures { result ≡ number_in (answered answer) }
-{
-    match answer {
-        Answer::Refused(refusal) => refusal.number(),
-        Answer::Done => 0,
-    }
 }
 
 // Log steps until one is refused.
@@ -57,40 +34,40 @@ pub fn log_all(
 ) -> Stopped
     ensures { LogsAll state log.old home.now frames.old staging.now result log.new frames.new }
 {
-    let mut after = state;
-    let mut answer = Answer::Done;
-    let mut calls: u64 = 0;
-    while number_of(answer) == 0 {
-        let outcome = store::log_step(after, log, home, frames, staging);
-        let logged = outcome.answer;
-        after = outcome.state;
-        answer = without_ticket(logged);
-        calls += 1;
-    }
-    Stopped {
-        state: after,
-        answer,
-        count: calls - 1,
+    let mut state = state;
+    let mut count = 0;
+    'steps: loop {
+        let outcome = store::log_step(state, log, home, frames, staging);
+        state = outcome.state;
+        if let Err(refusal) = outcome.answer {
+            return Stopped {
+                state,
+                refusal,
+                count,
+            };
+        }
+        count += 1;
     }
 }
 
-// Clean steps until one is refused.
+// Clean steps until one is refused. It is written out beside log_all: a closure for the call would take the areas that only one of the two
+// changes, and its contract would be as long as either.
 pub fn clean_all(state: State, log: &mut [u8], home: &mut [u8], frames: &[u8]) -> Stopped
     ensures { CleansAll state log.old home.old frames.now result log.new home.new }
 {
-    let mut after = state;
-    let mut answer = Answer::Done;
-    let mut calls: u64 = 0;
-    while number_of(answer) == 0 {
-        let outcome = store::clean_step(after, log, home, frames);
-        answer = outcome.answer;
-        after = outcome.state;
-        calls += 1;
-    }
-    Stopped {
-        state: after,
-        answer,
-        count: calls - 1,
+    let mut state = state;
+    let mut count = 0;
+    'steps: loop {
+        let outcome = store::clean_step(state, log, home, frames);
+        state = outcome.state;
+        if let Err(refusal) = outcome.answer {
+            return Stopped {
+                state,
+                refusal,
+                count,
+            };
+        }
+        count += 1;
     }
 }
 
@@ -108,44 +85,36 @@ pub fn begin(
     ensures { BeginsWaiting (world_of state log.old home.old frames.old staging.now) u result (world_of result.state log.new home.new frames.new staging.now) }
 {
     let first = store::begin(state, u);
-    let at_once = first.answer;
-    let begun = first.state;
-    if number_of(at_once) != 5 {
+    if first.answer != Err(Refusal::Full) {
         return Waited {
-            state: begun,
-            answer: at_once,
+            state: first.state,
+            answer: first.answer,
             logged: 0,
             cleaned: 0,
         };
     }
-    let logs = log_all(begun, log, home, frames, staging);
-    let log_answer = logs.answer;
-    let stored = logs.state;
-    if number_of(log_answer) != 10 {
+    let logs = log_all(first.state, log, home, frames, staging);
+    if logs.refusal != Refusal::NothingToDo {
         return Waited {
-            state: stored,
-            answer: log_answer,
+            state: logs.state,
+            answer: Err(logs.refusal),
             logged: logs.count,
             cleaned: 0,
         };
     }
-    let cleans = clean_all(stored, log, home, frames);
-    let clean_answer = cleans.answer;
-    let clean = cleans.state;
-    if number_of(clean_answer) != 10 {
+    let cleans = clean_all(logs.state, log, home, frames);
+    if cleans.refusal != Refusal::NothingToDo {
         return Waited {
-            state: clean,
-            answer: clean_answer,
+            state: cleans.state,
+            answer: Err(cleans.refusal),
             logged: logs.count,
             cleaned: cleans.count,
         };
     }
-    let last = store::begin(clean, u);
-    let answer = last.answer;
-    let after = last.state;
+    let last = store::begin(cleans.state, u);
     Waited {
-        state: after,
-        answer,
+        state: last.state,
+        answer: last.answer,
         logged: logs.count,
         cleaned: cleans.count,
     }

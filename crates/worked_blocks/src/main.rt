@@ -2,49 +2,27 @@
 // check bytes in hex, and what judging says of the slot. For case 8 the offset, the length and whether they are legal.
 #![tactic(auto)]
 
-ghost use Rattle.std.specs.Prelude.{◌≤◌, ◌<◌, length};
+ghost use Rattle.std.specs.Prelude.{◌≤◌, length};
 ghost use Rattle.block.specs.Sizes.{new_bytes_most};
 
 use block::{Block, Judged};
+use std::io;
 
 const SLOTS: u64 = 8;
 
 const PAGES: usize = 4;
 
-// The hex digit of a number below 16, in upper case.
-fn digit(value: u8) -> u8
-    requires { value < 16 }
-{
-    if value < 10 { 48 + value } else { 55 + value }
-}
-
-fn print_byte(byte: u8) {
-    let digits = [32, digit(byte / 16), digit(byte % 16)];
-    io::write_all(1, &digits);
-}
-
-fn print_judged(judged: Judged) {
-    match judged {
-        Judged::Unused => {
-            io::write_all(1, b" unused\n");
-        }
-        Judged::Damaged => {
-            io::write_all(1, b" damaged\n");
-        }
-        Judged::Valid(_) => {
-            io::write_all(1, b" valid\n");
-        }
-    }
-}
-
 // The line of a slot at a place.
-fn show(case: u64, slot: [u8; 512], place: u64) {
-    io::print_decimal(1, case);
-    print_byte(slot[508]);
-    print_byte(slot[509]);
-    print_byte(slot[510]);
-    print_byte(slot[511]);
-    print_judged(block::judge(&slot, SLOTS, PAGES, place));
+fn show(rt: &impl Print, case: u64, slot: &[u8; 512], place: u64) -> io::Result<()> {
+    let judged = match block::judge(slot, SLOTS, PAGES, place) {
+        Judged::Unused => "unused",
+        Judged::Damaged => "damaged",
+        Judged::Valid(_) => "valid",
+    };
+    println!(rt;
+        "{case} {:02X} {:02X} {:02X} {:02X} {judged}",
+        slot[508], slot[509], slot[510], slot[511]
+    )
 }
 
 // A slot that held other bytes, with a block written to it.
@@ -57,17 +35,14 @@ fn written(block: Block, new: &[u8]) -> [u8; 512]
 }
 
 // Case 8: whether 472 bytes at an offset of page 0 are legal.
-fn show_place(offset: usize) {
+fn show_place(rt: &impl Print, offset: usize) -> io::Result<()> {
     let length = Block::NEW_BYTES;
-    io::write_all(1, b"8 ");
-    io::print_decimal(1, offset as u64);
-    io::write_all(1, b" ");
-    io::print_decimal(1, length as u64);
-    if block::legal_place(PAGES, 0, offset, length) {
-        io::write_all(1, b" legal\n");
+    let legal = if block::legal_place(PAGES, 0, offset, length) {
+        "legal"
     } else {
-        io::write_all(1, b" not legal\n");
-    }
+        "not legal"
+    };
+    println!(rt; "8 {offset} {length} {legal}")
 }
 
 // An update of 472 bytes, zero but for bytes 100 and 357 of the block.
@@ -80,26 +55,31 @@ fn of_two(at_100: u8, at_357: u8) -> [u8; 512] {
 
 // Case 13: two blocks with the same check; the one changed in place to the other, which no check finds; and changed in one
 // byte, which the check finds.
-fn show_same_check() {
+fn show_same_check(rt: &impl Print) -> io::Result<()> {
     let mut slot = of_two(0, 255);
-    show(13, slot, 1);
-    show(13, of_two(255, 0), 1);
+    show(rt, 13, &slot, 1)?;
+    show(rt, 13, &of_two(255, 0), 1)?;
     slot[100] = 255;
     slot[357] = 0;
-    show(13, slot, 1);
+    show(rt, 13, &slot, 1)?;
     slot[357] = 1;
-    show(13, slot, 1);
+    show(rt, 13, &slot, 1)
 }
 
-fn main() {
-    show(1, [0; Block::SIZE], 1);
-    show(2, written(Block::update(1, 1, 1, 0, 0, 1, 0), b"*"), 1);
-    show(3, written(Block::commit(2, 1, 1, 1), b""), 2);
-    show(4, written(Block::clean(3, 3, 0, 1), b""), 3);
-    show_place(552);
-    show_place(553);
+fn main(rt: HostRuntime) -> io::Result<()> {
+    show(&rt, 1, &[0; Block::SIZE], 1)?;
+    show(
+        &rt,
+        2,
+        &written(Block::update(1, 1, 1, 0, 0, 1, 0), b"*"),
+        1,
+    )?;
+    show(&rt, 3, &written(Block::commit(2, 1, 1, 1), b""), 2)?;
+    show(&rt, 4, &written(Block::clean(3, 3, 0, 1), b""), 3)?;
+    show_place(&rt, 552)?;
+    show_place(&rt, 553)?;
     let eighth = written(Block::clean(8, 8, 0, 1), b"");
-    show(9, eighth, 0);
-    show(9, eighth, 1);
-    show_same_check();
+    show(&rt, 9, &eighth, 0)?;
+    show(&rt, 9, &eighth, 1)?;
+    show_same_check(&rt)
 }

@@ -1,44 +1,30 @@
 // The store's answers in the digest.
 use crate::numbers;
-use promises::{Answer, Ended, Logged, Opened};
+use promises::{Logged, Refusal, Stop};
 
-// The digest with the answer of Begin, Describe or Clean step.
-pub fn answered(digest: u64, answer: Answer) -> u64 {
+// The digest with an answer: the value of an accepted call, or the number of a refusal.
+pub fn answered(digest: u64, answer: Result<u64, Refusal>) -> u64 {
     match answer {
-        Answer::Refused(refusal) => numbers::note(digest, refusal.number()),
-        Answer::Done => numbers::accepted(digest, 0),
+        Ok(value) => numbers::accepted(digest, value),
+        Err(refusal) => numbers::note(digest, refusal.number()),
     }
 }
 
-// Whether Begin is refused as full.
-pub fn is_full(answer: Answer) -> bool {
-    match answer {
-        Answer::Refused(refusal) => refusal.number() == 5,
-        Answer::Done => false,
-    }
+// The digest with the answer of Begin, Describe or Clean step, which has no value.
+pub fn done(digest: u64, answer: Result<(), Refusal>) -> u64 {
+    answered(digest, answer.map(|()| 0))
 }
 
-// The digest with End's answer.
-pub fn ended(digest: u64, answer: Ended) -> u64 {
-    match answer {
-        Ended::Refused(refusal) => numbers::note(digest, refusal.number()),
-        Ended::Ticket(ticket) => numbers::accepted(digest, ticket),
-    }
-}
-
-// The digest with Log step's answer.
-pub fn logged(digest: u64, answer: Logged) -> u64 {
-    match answer {
-        Logged::Refused(refusal) => numbers::note(digest, refusal.number()),
-        Logged::Stored => numbers::accepted(digest, 0),
-        Logged::Settled(ticket) => numbers::accepted(digest, ticket),
-    }
+// The digest with Log step's answer: the ticket that is settled, or 0.
+pub fn logged(digest: u64, answer: Result<Logged, Refusal>) -> u64 {
+    let ticket = answer.map(|logged| match logged {
+        Logged::Stored => 0,
+        Logged::Settled(ticket) => ticket,
+    });
+    answered(digest, ticket)
 }
 
 // The digest with Open's answer.
-pub fn opened(digest: u64, answer: Opened) -> u64 {
-    match answer {
-        Opened::Refused(refusal, place) => numbers::note(digest, refusal.number()),
-        Opened::Settled(ticket) => numbers::accepted(digest, ticket),
-    }
+pub fn opened(digest: u64, answer: Result<u64, Stop>) -> u64 {
+    answered(digest, answer.map_err(|stop| stop.refusal))
 }

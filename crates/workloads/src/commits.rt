@@ -1,6 +1,6 @@
 // The workloads that change the store: transactions with their cleaning, and Begin refused as full.
 use crate::{calling, numbers};
-use promises::State;
+use promises::{Refusal, State};
 
 // The store as the calls before left it, and the digest of their answers.
 #[derive(Clone, Copy)]
@@ -67,16 +67,27 @@ fn drawn(a: u64, b: u64, c: u64, d: u64) -> Places {
     }
 }
 
-// Begin of two updates.
-fn begun(progress: Progress) -> Progress {
-    let before = progress.state;
-    let outcome = store::begin(before, 2);
-    let answer = outcome.answer;
-    let state = outcome.state;
-    Progress {
-        state,
-        digest: calling::answered(progress.digest, answer),
+// Begin of two updates. While it is refused as full a page is cleaned, but of no more than so many pages, and Begin is called again.
+fn begun(
+    progress: Progress,
+    log: &mut [u8],
+    home: &mut [u8],
+    frames: &[u8],
+    pages: u64,
+) -> Progress {
+    let mut outcome = store::begin(progress.state, 2);
+    let mut digest = calling::done(progress.digest, outcome.answer);
+    for _ in 0..pages {
+        if outcome.answer != Err(Refusal::Full) {
+            break;
+        }
+        let state = outcome.state;
+        let after = cleaned(Progress { state, digest }, log, home, frames, 3);
+        outcome = store::begin(after.state, 2);
+        digest = calling::done(after.digest, outcome.answer);
     }
+    let state = outcome.state;
+    Progress { state, digest }
 }
 
 // Both updates described, the transaction ended, and its three blocks stored.
@@ -91,29 +102,21 @@ fn committed(
 ) -> Progress {
     let mut state = progress.state;
     let mut digest = progress.digest;
-    let mut page = places.first_page;
-    let mut offset = places.first_offset;
-    let mut which: u8 = 1;
-    while which < 3 {
+    for (which, page, offset) in [
+        (1, places.first_page, places.first_offset),
+        (2, places.second_page, places.second_offset),
+    ] {
         let outcome = store::describe(state, staging, page, offset, &new_bytes(i, which));
-        let answer = outcome.answer;
         state = outcome.state;
-        digest = calling::answered(digest, answer);
-        page = places.second_page;
-        offset = places.second_offset;
-        which += 1;
+        digest = calling::done(digest, outcome.answer);
     }
     let ended = store::end(state);
-    let ticket = ended.answer;
     state = ended.state;
-    digest = calling::ended(digest, ticket);
-    let mut blocks: u64 = 3;
-    while 0 < blocks {
+    digest = calling::answered(digest, ended.answer);
+    for _ in 0..3 {
         let outcome = store::log_step(state, log, home, frames, staging);
-        let answer = outcome.answer;
         state = outcome.state;
-        digest = calling::logged(digest, answer);
-        blocks -= 1;
+        digest = calling::logged(digest, outcome.answer);
     }
     Progress { state, digest }
 }
@@ -128,13 +131,10 @@ fn cleaned(
 ) -> Progress {
     let mut state = progress.state;
     let mut digest = progress.digest;
-    let mut left = steps;
-    while 0 < left {
+    for _ in 0..steps {
         let outcome = store::clean_step(state, log, home, frames);
-        let answer = outcome.answer;
         state = outcome.state;
-        digest = calling::answered(digest, answer);
-        left -= 1;
+        digest = calling::done(digest, outcome.answer);
     }
     Progress { state, digest }
 }
@@ -142,12 +142,35 @@ fn cleaned(
 // Open of what these areas hold.
 fn opened(log: &[u8], home: &[u8], frames: &mut [u8], staging: &[u8]) -> Progress {
     let outcome = store::open(log, home, frames, staging);
-    let answer = outcome.answer;
-    let state = outcome.state;
     Progress {
-        state,
-        digest: calling::opened(0, answer),
+        state: outcome.state,
+        digest: calling::opened(0, outcome.answer),
     }
+}
+
+// Transactions of two updates: so many pages at most are cleaned where Begin is refused as full, and so many Clean steps follow each.
+fn transactions(
+    log: &mut [u8],
+    home: &mut [u8],
+    frames: &mut [u8],
+    staging: &mut [u8],
+    count: u64,
+    pages: u64,
+    steps: u64,
+) -> u64 {
+    let _ = store::format(log);
+    let mut progress = opened(log, home, frames, staging);
+    let mut x = 1;
+    for i in 0..count {
+        let a = numbers::after(x);
+        let b = numbers::after(a);
+        let c = numbers::after(b);
+        x = numbers::after(c);
+        progress = begun(progress, log, home, frames, pages);
+        progress = committed(progress, log, home, frames, staging, i, drawn(a, b, c, x));
+        progress = cleaned(progress, log, home, frames, steps);
+    }
+    progress.digest
 }
 
 // Transactions of two updates, both pages cleaned at once.
@@ -158,41 +181,7 @@ pub fn commits(
     staging: &mut [u8],
     count: u64,
 ) -> u64 {
-    let formatted = store::format(log);
-    let mut progress = opened(log, home, frames, staging);
-    let mut x: u64 = 1;
-    let mut i: u64 = 0;
-    while i < count {
-        let a = numbers::after(x);
-        let b = numbers::after(a);
-        let c = numbers::after(b);
-        x = numbers::after(c);
-        let first = begun(progress);
-        let second = committed(first, log, home, frames, staging, i, drawn(a, b, c, x));
-        progress = cleaned(second, log, home, frames, 6);
-        i += 1;
-    }
-    progress.digest
-}
-
-// Begin of two updates: a page is cleaned while it is refused as full.
-fn begun_late(progress: Progress, log: &mut [u8], home: &mut [u8], frames: &[u8]) -> Progress {
-    let mut state = progress.state;
-    let mut outcome = store::begin(state, 2);
-    let mut answer = outcome.answer;
-    state = outcome.state;
-    let mut digest = calling::answered(progress.digest, answer);
-    let mut turns: u64 = 32;
-    while (0 < turns) & calling::is_full(answer) {
-        let after = cleaned(Progress { state, digest }, log, home, frames, 3);
-        state = after.state;
-        outcome = store::begin(state, 2);
-        answer = outcome.answer;
-        state = outcome.state;
-        digest = calling::answered(after.digest, answer);
-        turns -= 1;
-    }
-    Progress { state, digest }
+    transactions(log, home, frames, staging, count, 0, 6)
 }
 
 // The same, cleaned only once Begin is refused as full.
@@ -203,20 +192,7 @@ pub fn late_commits(
     staging: &mut [u8],
     count: u64,
 ) -> u64 {
-    let formatted = store::format(log);
-    let mut progress = opened(log, home, frames, staging);
-    let mut x: u64 = 1;
-    let mut i: u64 = 0;
-    while i < count {
-        let a = numbers::after(x);
-        let b = numbers::after(a);
-        let c = numbers::after(b);
-        x = numbers::after(c);
-        progress = begun_late(progress, log, home, frames);
-        progress = committed(progress, log, home, frames, staging, i, drawn(a, b, c, x));
-        i += 1;
-    }
-    progress.digest
+    transactions(log, home, frames, staging, count, 32, 0)
 }
 
 // Begin again and again, where all frames are in use.
@@ -230,13 +206,10 @@ pub fn refused_begins(
     let progress = opened(log, home, frames, staging);
     let mut state = progress.state;
     let mut digest = progress.digest;
-    let mut i: u64 = 0;
-    while i < count {
+    for _ in 0..count {
         let outcome = store::begin(state, 1);
-        let answer = outcome.answer;
         state = outcome.state;
-        digest = calling::answered(digest, answer);
-        i += 1;
+        digest = calling::done(digest, outcome.answer);
     }
     digest
 }

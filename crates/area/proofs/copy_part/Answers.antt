@@ -7,5 +7,5 @@ use Rattle.area.proofs.copy_part.Goals as goal
 pub returns : goal.returns
 returns c =
     let a = c.args in
-    lent a.destination.now a.to a.count c.copy.new.destination _
-    (c.copy.ensures ∙ from-to a.source.now a.from a.count)
+    lent a.destination.now a.to a.count c.copy_from_slice.new.self _
+    (c.copy_from_slice.ensures.after ∙ from-to a.source.now a.from a.count)

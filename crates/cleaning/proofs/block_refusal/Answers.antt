@@ -11,7 +11,7 @@ use native.Mathlib.Omega.{arith}
 use Rattle.cleaning.proofs.block_refusal.Goals as goal
 
 pub returns-then-state-ne0 : goal.returns-then-state-ne0
-returns-then-state-ne0 c = (block-by c.args.state 0 false _ (sym (ne_eqb _ _ c.if-state-ne0.true)) refl, omega arith)
+returns-then-state-ne0 c = block-by c.args.state 0 false _ (sym (ne_eqb _ _ c.if-state-ne0.true)) refl
 
 pub owed-owed-requires : goal.owed-owed-requires
 owed-owed-requires c = let f : Sound c.args.state = sound-of _ c.requires.0 in f.reserved
@@ -27,11 +27,11 @@ returns-then-state-sums-eq-SEQUENCE_END c =
     let s = c.args.state in
     let w = c.requires.1.waiting in
     let o = c.owed-owed.ensures.0 in
-    (block-by s 0 true true (sym (eq-eqb _ _ c.if-state-ne0.false)) (sym (eq-eqb (sequences_taken s) (2 ^ 48) (omega (arith, w, o, c.if-state-sums-eq-SEQUENCE_END.true)))), omega arith)
+    block-by s 0 true true (sym (eq-eqb _ _ c.if-state-ne0.false)) (sym (eq-eqb (sequences_taken s) (2 ^ 48) (omega (arith, w, o, c.if-state-sums-eq-SEQUENCE_END.true))))
 
 pub returns : goal.returns
 returns c =
     let s = c.args.state in
     let w = c.requires.1.waiting in
     let o = c.owed-owed.ensures.0 in
-    (block-by s 0 true false (sym (eq-eqb _ _ c.if-state-ne0.false)) (sym (ne_eqb (sequences_taken s) (2 ^ 48) (λ e. c.if-state-sums-eq-SEQUENCE_END.false (omega (arith, w, o, e))))), omega arith)
+    block-by s 0 true false (sym (eq-eqb _ _ c.if-state-ne0.false)) (sym (ne_eqb (sequences_taken s) (2 ^ 48) (λ e. c.if-state-sums-eq-SEQUENCE_END.false (omega (arith, w, o, e)))))

@@ -8,5 +8,5 @@ use Rattle.cleaning.proofs.store_clean.Goals as goal
 pub returns : goal.returns
 returns c =
     let a = c.args in
-    cleaned-by a.state a.log.now _ _ a.choice.frame _ _ _ (c.wide-page.ensures ∙ ap (λ (d : Dirty). d.page) c.requires.4) c.oldest_but-keep_from.ensures
+    cleaned-by a.state a.log.now _ _ a.choice.frame _ _ _ (c.from-page.ensures ∙ ap (λ (d : Dirty). d.page) c.requires.4) c.oldest_but-keep_from.ensures
     c.clean-block.ensures refl c.store.ensures

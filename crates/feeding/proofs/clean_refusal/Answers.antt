@@ -4,7 +4,7 @@ use mathlib.Core.Path.{refl, sym, ap, ◌∙◌}
 use mathlib.Core.List.{List}
 use Rattle.promises.specs.Blocks.{clean}
 use Rattle.outline.specs.declared.Mark.{Mark}
-use Rattle.outline.specs.Marks.{marks_in, unmarked}
+use Rattle.outline.specs.Marks.{unmarked}
 use Rattle.feeding.proofs.Testing.{numbers_of}
 use Rattle.feeding.proofs.Turning.{out_of_order_lem, unfit, passes, clean-fits-is, clean-framed, stands}
 use native.Mathlib.Omega.{arith}
@@ -22,16 +22,16 @@ overflow_add-state c = let n = numbers_of c.args.state c.requires in omega (arit
 pub fits-requires : goal.fits-requires
 fits-requires c =
     let n = numbers_of c.args.state c.requires in
-    (omega (arith, c.unmark_page-marks.ensures.1, c.marks_of.ensures.1), omega arith, n.next)
+    (omega (arith, c.unmark_page.ensures.few, c.marks_of-marks.ensures.few), omega arith, n.next)
 
 pub returns-then-not-fits : goal.returns-then-not-fits
 returns-then-not-fits c = λ log home frames.
     let a = c.args in
     let v = stands a.state log frames in
     let order = sym (c.clean_fits.ensures v a.page refl) ∙ c.if-not-clean_fits.false in
-    let marks = c.unmark_page-marks.ensures.0 ∙ ap (λ (ms : List Mark). unmarked a.page ms) (c.marks_of.ensures.0 frames) in
+    let marks = c.unmark_page.ensures.is ∙ ap (λ (ms : List Mark). unmarked a.page ms) (c.marks_of-marks.ensures.is frames) in
     unfit a.state home v (record { kind = clean a.page; keep_from = a.keep_from; ticket = a.ticket }) c.fits.result
-    (c.fits.ensures ∙ clean-fits-is a.state home v a.keep_from a.ticket a.page (marks_in c.unmark_page-marks.result) marks)
+    (c.fits.ensures ∙ clean-fits-is a.state home v a.keep_from a.ticket a.page c.unmark_page.new.marks.items marks)
     order c.if-not-fits.true
 
 pub returns : goal.returns
@@ -39,7 +39,7 @@ returns c = λ log home frames.
     let a = c.args in
     let v = stands a.state log frames in
     let order = sym (c.clean_fits.ensures v a.page refl) ∙ c.if-not-clean_fits.false in
-    let marks = c.unmark_page-marks.ensures.0 ∙ ap (λ (ms : List Mark). unmarked a.page ms) (c.marks_of.ensures.0 frames) in
+    let marks = c.unmark_page.ensures.is ∙ ap (λ (ms : List Mark). unmarked a.page ms) (c.marks_of-marks.ensures.is frames) in
     passes a.state home v (record { kind = clean a.page; keep_from = a.keep_from; ticket = a.ticket }) c.fits.result
-    (c.fits.ensures ∙ clean-fits-is a.state home v a.keep_from a.ticket a.page (marks_in c.unmark_page-marks.result) marks)
+    (c.fits.ensures ∙ clean-fits-is a.state home v a.keep_from a.ticket a.page c.unmark_page.new.marks.items marks)
     order c.if-not-fits.false (clean-framed a.state.frames home a.page v)

@@ -1,12 +1,7 @@
 -- `feeding::has_update` meets its contract.
 -- Assumes nothing.
-use lib.ListN.{length}
-use Rattle.recovery.proofs.Scanning.{slot-below}
 use Rattle.feeding.proofs.Testing.{update-at}
 use Rattle.feeding.proofs.has_update.Goals as goal
-
-pub slot_bytes-bytes-requires : goal.slot_bytes-bytes-requires
-slot_bytes-bytes-requires c = slot-below (length c.args.log.now) c.args.sequence c.requires
 
 pub returns : goal.returns
 returns c =

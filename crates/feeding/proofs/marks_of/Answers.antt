@@ -1,39 +1,38 @@
 -- `feeding::marks_of` meets its contract: what is left to see of the frames from an index on.
 -- Assumes nothing.
-use mathlib.Core.Path.{◌≡◌, sym, ap, ◌∙◌}
-use mathlib.Core.List.{List, ◌++◌, append-nil, append_assoc}
-use Prim.Native.Nat.{◌+◌}
-use lib.ListN.{length, drop}
-use Rattle.table.proofs.Scans.{length-mapped}
-use Rattle.promises.specs.Contents.{dirty_from}
+use mathlib.Core.Path.{sym, ap, ◌∙◌}
+use mathlib.Core.Bool.{Bool}
+use mathlib.Core.List.{List, [], ◌∷◌, ◌++◌, append-nil}
+use Prim.Native.Nat.{ℕ}
+use lib.ListN.{get_or}
+use borrow.Author.Tests.{eq-eqb, ne_eqb}
+use Rattle.arrayvec.specs.ArrayVec.{ArrayVec, array_vec_len}
+use Rattle.promises.specs.declared.Dirty.{Dirty}
+use Rattle.promises.specs.States.{free}
+use Rattle.promises.specs.Contents.{unless}
 use Rattle.outline.specs.declared.Mark.{Mark}
-use Rattle.outline.specs.Marks.{marks_of, marks_in}
-use Rattle.feeding.proofs.Testing.{marks-next, marks-end}
-use borrow.Author.Rules.{rules}
+use Rattle.feeding.proofs.Testing.{marks-turn, marks-end}
 use native.Mathlib.Omega.{arith}
 use Rattle.feeding.proofs.marks_of.Goals as goal
+use Rattle.feeding.proofs.marks_of.Goals.{then-entry-ne0, else-entry-ne0}
 
-pub loop-i-init : goal.loop-i-init
-loop-i-init c = let m = c.no_marks-marks.ensures in (omega arith, omega (arith, m.1), λ frames. ap (λ (ms : List Mark). ms ++ marks_of (dirty_from frames 0 c.args.dirty)) m.0)
+pub loop-entry-preserved : goal.loop-entry-preserved
+loop-entry-preserved c =
+    let l = c.loop-entry in
+    let entry : Dirty = get_or c.args.dirty.now l.entry-index free in
+    elim c.if-entry-ne0.branch [
+      | then-entry-ne0 w ↦
+          let more = ap (λ (v : ArrayVec Mark). v.items) w.marks-is ∙ w.push.ensures.items
+          ∙ ap (λ (p : ℕ). l.marks.items ++ (record { page = p; first = entry.first } ∷ [])) w.from.ensures
+          ∙ ap (λ (b : Bool). l.marks.items ++ unless b (record { page = entry.page; first = entry.first }) []) (sym (ne_eqb _ _ w.if-entry-ne0.true)) in
+          (omega (arith, ap (λ (v : ArrayVec Mark). array_vec_len v) w.marks-is, w.push.ensures.len, l.invariant.0), λ frames. marks-turn frames c.args.dirty.now l.entry-index l.marks.items _ (omega arith) more ∙ l.invariant.1 frames)
+      | else-entry-ne0 w ↦
+          let same = ap (λ (v : ArrayVec Mark). v.items) w.marks-is ∙ sym (append-nil l.marks.items)
+          ∙ ap (λ (b : Bool). l.marks.items ++ unless b (record { page = entry.page; first = entry.first }) []) (sym (eq-eqb _ _ w.if-entry-ne0.false)) in
+          (omega (arith, ap (λ (v : ArrayVec Mark). array_vec_len v) w.marks-is, l.invariant.0), λ frames. marks-turn frames c.args.dirty.now l.entry-index l.marks.items _ (omega arith) same ∙ l.invariant.1 frames)
+    ]
 
-pub loop-i-preserved : goal.loop-i-preserved
-loop-i-preserved c =
-    let a = c.args in
-    let l = c.loop-i in
-    let m = c.with_entry-marks.ensures in
-    let long : length a.dirty ≡ 32 = search (rules, length-mapped) in (
-      omega arith,
-      omega (arith, m.1),
-      λ frames.
-          ap (λ (ms : List Mark). ms ++ marks_of (dirty_from frames (l.i + 1) (drop (l.i + 1) a.dirty))) m.0
-          ∙ append_assoc (marks_in l.marks) _ (marks_of (dirty_from frames (l.i + 1) (drop (l.i + 1) a.dirty)))
-          ∙ ap (λ (ms : List Mark). marks_in l.marks ++ ms) (sym (marks-next frames a.dirty l.i (omega arith)))
-          ∙ l.invariant.2 frames,
-    )
-
-pub returns : goal.returns
-returns c =
-    let a = c.args in
-    let l = c.loop-i in
-    let long : length a.dirty ≡ 32 = search (rules, length-mapped) in
-    (λ frames. sym (append-nil (marks_in l.marks)) ∙ ap (λ (ms : List Mark). marks_in l.marks ++ ms) (sym (marks-end frames a.dirty l.i (omega arith))) ∙ l.invariant.2 frames, omega arith)
+pub returns-clause-is : goal.returns-clause-is
+returns-clause-is c = λ frames.
+    let l = c.loop-entry in
+    sym (append-nil l.marks.items) ∙ ap (λ (ms : List Mark). l.marks.items ++ ms) (sym (marks-end frames c.args.dirty.now l.entry-index (omega arith))) ∙ l.invariant.1 frames

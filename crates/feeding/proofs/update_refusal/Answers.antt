@@ -2,7 +2,6 @@
 -- Assumes nothing.
 use mathlib.Core.Path.{refl, sym, ◌∙◌}
 use Rattle.promises.specs.Blocks.{update}
-use Rattle.outline.specs.Marks.{marks_in}
 use Rattle.feeding.proofs.Testing.{numbers_of}
 use Rattle.feeding.proofs.Turning.{out_of_order_lem, unfit, passes, update-fits-is, update-framed, stands, stored_is}
 use native.Mathlib.Omega.{arith}
@@ -23,7 +22,7 @@ own_start-own-requires c = let n = numbers_of c.args.state c.requires in omega (
 pub fits-requires : goal.fits-requires
 fits-requires c =
     let n = numbers_of c.args.state c.requires in
-    (omega (arith, c.marks_of-marks.ensures.1), omega (arith, c.own_start-own.ensures.1), n.next)
+    (omega (arith, c.marks_of-marks.ensures.few), omega (arith, c.own_start-own.ensures.1), n.next)
 
 pub returns-then-not-fits : goal.returns-then-not-fits
 returns-then-not-fits c = λ log change home frames.
@@ -32,7 +31,7 @@ returns-then-not-fits c = λ log change home frames.
     let order = sym (c.update_fits.ensures v change (stored_is a.state log frames) refl) ∙ c.if-not-update_fits.false in
     unfit a.state home v (record { kind = update a.index change; keep_from = a.keep_from; ticket = a.ticket }) c.fits.result
     (c.fits.ensures
-    ∙ update-fits-is a.state home v a.keep_from a.ticket a.index change c.own_start-own.result (marks_in c.marks_of-marks.result) c.own_start-own.ensures.0 (c.marks_of-marks.ensures.0 frames))
+    ∙ update-fits-is a.state home v a.keep_from a.ticket a.index change c.own_start-own.result c.marks_of-marks.result.items c.own_start-own.ensures.0 (c.marks_of-marks.ensures.is frames))
     order c.if-not-fits.true
 
 pub returns : goal.returns
@@ -42,5 +41,5 @@ returns c = λ log change home frames.
     let order = sym (c.update_fits.ensures v change (stored_is a.state log frames) refl) ∙ c.if-not-update_fits.false in
     passes a.state home v (record { kind = update a.index change; keep_from = a.keep_from; ticket = a.ticket }) c.fits.result
     (c.fits.ensures
-    ∙ update-fits-is a.state home v a.keep_from a.ticket a.index change c.own_start-own.result (marks_in c.marks_of-marks.result) c.own_start-own.ensures.0 (c.marks_of-marks.ensures.0 frames))
+    ∙ update-fits-is a.state home v a.keep_from a.ticket a.index change c.own_start-own.result c.marks_of-marks.result.items c.own_start-own.ensures.0 (c.marks_of-marks.ensures.is frames))
     order c.if-not-fits.false (update-framed a.state.frames home a.index change v)

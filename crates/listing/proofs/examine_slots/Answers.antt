@@ -1,6 +1,6 @@
 -- `listing::examine_slots` meets its contract: no block, no valid one, one missing, a damaged end, a walk that is refused, or one that stands.
 -- Assumes nothing.
-use mathlib.Core.Path.{refl, sym, ap, subst, ◌∙◌}
+use mathlib.Core.Path.{sym, ap, subst, ◌∙◌}
 use Prim.Native.Nat.{◌+◌, ◌-◌, ◌<◌}
 use native.Mathlib.Omega.{arith}
 use lib.ListN.{length}
@@ -9,6 +9,8 @@ use Rattle.block.specs.declared.Block.{Block}
 use Rattle.outline.specs.Outline.{steps, ended, started}
 use Rattle.listing.specs.Listing.{headers_from}
 use Rattle.listing.proofs.Examining.{keep-range, ordinary-at, examines-fresh, examines-damaged, examines-lost, examines-end, examines-refused, examines-accepted}
+use Rattle.std.proofs.lemmas.Result.{err_from_is_err_and}
+use Rattle.listing.proofs.Finding.{ended-stopped}
 use Rattle.listing.proofs.examine_slots.Goals as goal
 
 pub returns-then-scan : goal.returns-then-scan
@@ -17,7 +19,7 @@ returns-then-scan c =
     let p = c.requires in
     let j = c.judge_all-scan in
     let size = j.auto.sequences in
-    examines-fresh a.log.now (length a.sequences.now) p.0 p.1 p.2 j.result j.new.sequences size j.ensures _ c.if-scan.true c.fresh.ensures
+    examines-fresh a.log.now (length a.sequences.now) p.0 p.1 p.2 j.result j.new.sequences size j.ensures c.if-scan.true
 
 pub returns-then-newest-eq0 : goal.returns-then-newest-eq0
 returns-then-newest-eq0 c =
@@ -25,8 +27,7 @@ returns-then-newest-eq0 c =
     let p = c.requires in
     let j = c.judge_all-scan in
     let size = j.auto.sequences in
-    let r = c.refused.ensures in
-    examines-damaged a.log.now (length a.sequences.now) p.0 p.1 p.2 j.result j.new.sequences size j.ensures _ c.if-newest-eq0.true c.if-scan.false r
+    examines-damaged a.log.now (length a.sequences.now) p.0 p.1 p.2 j.result j.new.sequences size j.ensures _ c.if-newest-eq0.true c.if-scan.false c.missing.ensures
 
 pub missing-lost-requires : goal.missing-lost-requires
 missing-lost-requires c =
@@ -64,21 +65,8 @@ returns-then-lost-newest c =
     let h = c.header-last in
     let keep = h.result.keep_from in
     let keep-is = ap (λ (b : Block). b.keep_from) h.ensures in
-    let r = c.refused-then-lost-newest.ensures in
+    let r = c.missing-then-lost-newest.ensures in
     examines-lost a.log.now (length a.sequences.now) p.0 p.1 p.2 j.result j.new.sequences size j.ensures some keep keep-is _ c.missing-lost.ensures _ c.if-lost-newest.true r
-
-pub overflow_add-newest-then-end_damaged : goal.overflow_add-newest-then-end_damaged
-overflow_add-newest-then-end_damaged c =
-    let a = c.args in
-    let p = c.requires in
-    let j = c.judge_all-scan in
-    let size = j.auto.sequences in
-    let some = c.if-newest-eq0.false in
-    let h = c.header-last in
-    let keep = h.result.keep_from in
-    let keep-is = ap (λ (b : Block). b.keep_from) h.ensures in
-    let range = keep-range a.log.now (length a.sequences.now) p.0 p.1 p.2 j.result j.new.sequences size j.ensures some keep keep-is in
-    omega (arith, range.2)
 
 pub returns-then-end_damaged : goal.returns-then-end_damaged
 returns-then-end_damaged c =
@@ -90,7 +78,7 @@ returns-then-end_damaged c =
     let h = c.header-last in
     let keep = h.result.keep_from in
     let keep-is = ap (λ (b : Block). b.keep_from) h.ensures in
-    let r = c.refused-then-end_damaged.ensures in
+    let r = c.missing-then-end_damaged.ensures in
     examines-end a.log.now (length a.sequences.now) p.0 p.1 p.2 j.result j.new.sequences size j.ensures some keep keep-is _ c.missing-lost.ensures (omega arith) _ _ c.damaged_at-end_damaged.ensures c.if-end_damaged.true r
 
 pub walk_blocks-requires : goal.walk_blocks-requires
@@ -113,8 +101,22 @@ walk_blocks-requires c =
       plain,
     )
 
-pub last_test-course-requires : goal.last_test-course-requires
-last_test-course-requires c =
+pub returns-in_err-walked : goal.returns-in_err-walked
+returns-in_err-walked c =
+    let a = c.args in
+    let p = c.requires in
+    let j = c.judge_all-scan in
+    let size = j.auto.sequences in
+    let some = c.if-newest-eq0.false in
+    let h = c.header-last in
+    let keep = h.result.keep_from in
+    let keep-is = ap (λ (b : Block). b.keep_from) h.ensures in
+    let e = err_from_is_err_and c.from_residual.result c.from_residual.ensures.1 in
+    let walked = ended-stopped (length a.sequences.now) _ _ ∙ ap (ended (length a.sequences.now)) (c.in_err-walked.ensures.0 ∙ ap (λ (b : Block). steps 32 (headers_from a.log.now keep (j.result.newest + 1 - keep)) (started keep b.ticket)) c.header-first.ensures) in
+    rw (e.1, e.2) (examines-refused a.log.now (length a.sequences.now) p.0 p.1 p.2 j.result j.new.sequences size j.ensures some keep keep-is _ c.missing-lost.ensures c.if-lost-newest.false _ c.damaged_at-end_damaged.ensures c.if-end_damaged.false _ walked)
+
+pub last_test-requires : goal.last_test-requires
+last_test-requires c =
     let a = c.args in
     let p = c.requires in
     let j = c.judge_all-scan in
@@ -124,14 +126,11 @@ last_test-course-requires c =
     let keep = h.result.keep_from in
     let keep-is = ap (λ (b : Block). b.keep_from) h.ensures in
     let range = keep-range a.log.now (length a.sequences.now) p.0 p.1 p.2 j.result j.new.sequences size j.ensures some keep keep-is in
-    let w = c.walk_blocks in
-    (w.ensures.1, w.ensures.2, omega (arith, w.ensures.3, range.2))
+    let w = c.in_ok-walked.ensures.1 in
+    (w.0, omega (arith, w.1), omega (arith, w.1, range.2))
 
-pub shape_of-sequences-then-course-ne0 : goal.shape_of-sequences-then-course-ne0
-shape_of-sequences-then-course-ne0 c = c.judge_all-scan.auto.sequences
-
-pub returns-then-course-ne0 : goal.returns-then-course-ne0
-returns-then-course-ne0 c =
+pub returns-in_err-course : goal.returns-in_err-course
+returns-in_err-course c =
     let a = c.args in
     let p = c.requires in
     let j = c.judge_all-scan in
@@ -140,15 +139,9 @@ returns-then-course-ne0 c =
     let h = c.header-last in
     let keep = h.result.keep_from in
     let keep-is = ap (λ (b : Block). b.keep_from) h.ensures in
-    let g = c.header-first in
-    let w = c.walk_blocks in
-    let t = c.last_test-course in
-    let walked = t.ensures ∙ ap (ended (length a.sequences.now)) (w.ensures.0 ∙ ap (λ (b : Block). steps 32 (headers_from a.log.now keep (j.result.newest + 1 - keep)) (started keep b.ticket)) g.ensures) in
-    let r = c.refused-then-course-ne0.ensures in
-    examines-refused a.log.now (length a.sequences.now) p.0 p.1 p.2 j.result j.new.sequences size j.ensures some keep keep-is _ c.missing-lost.ensures c.if-lost-newest.false _ c.damaged_at-end_damaged.ensures c.if-end_damaged.false t.result walked _ c.if-course-ne0.true r
-
-pub shape_of-sequences : goal.shape_of-sequences
-shape_of-sequences c = c.judge_all-scan.auto.sequences
+    let e = err_from_is_err_and c.from_residual-in_err-course.result c.from_residual-in_err-course.ensures.1 in
+    let walked = c.in_err-course.ensures ∙ ap (ended (length a.sequences.now)) (c.in_ok-walked.ensures.0 ∙ ap (λ (b : Block). steps 32 (headers_from a.log.now keep (j.result.newest + 1 - keep)) (started keep b.ticket)) c.header-first.ensures) in
+    rw (e.1, e.2) (examines-refused a.log.now (length a.sequences.now) p.0 p.1 p.2 j.result j.new.sequences size j.ensures some keep keep-is _ c.missing-lost.ensures c.if-lost-newest.false _ c.damaged_at-end_damaged.ensures c.if-end_damaged.false _ walked)
 
 pub returns : goal.returns
 returns c =
@@ -160,8 +153,5 @@ returns c =
     let h = c.header-last in
     let keep = h.result.keep_from in
     let keep-is = ap (λ (b : Block). b.keep_from) h.ensures in
-    let g = c.header-first in
-    let w = c.walk_blocks in
-    let t = c.last_test-course in
-    let walked = t.ensures ∙ ap (ended (length a.sequences.now)) (w.ensures.0 ∙ ap (λ (b : Block). steps 32 (headers_from a.log.now keep (j.result.newest + 1 - keep)) (started keep b.ticket)) g.ensures) in
-    examines-accepted a.log.now (length a.sequences.now) p.0 p.1 p.2 j.result j.new.sequences size j.ensures some keep keep-is _ c.missing-lost.ensures c.if-lost-newest.false _ c.damaged_at-end_damaged.ensures c.if-end_damaged.false t.result walked _ c.if-course-ne0.false refl refl refl refl refl
+    let walked = c.in_ok-course.ensures ∙ ap (ended (length a.sequences.now)) (c.in_ok-walked.ensures.0 ∙ ap (λ (b : Block). steps 32 (headers_from a.log.now keep (j.result.newest + 1 - keep)) (started keep b.ticket)) c.header-first.ensures) in
+    examines-accepted a.log.now (length a.sequences.now) p.0 p.1 p.2 j.result j.new.sequences size j.ensures some keep keep-is _ c.missing-lost.ensures c.if-lost-newest.false _ c.damaged_at-end_damaged.ensures c.if-end_damaged.false c.in_ok-course.course walked

@@ -1,11 +1,7 @@
 -- `listing::text` meets its contract: each turn adds one line behind those before it.
 -- Assumes nothing.
-use mathlib.Core.Path.{refl, sym, ap}
-use Prim.Native.Nat.{◌≤◌}
+use mathlib.Core.Path.{refl}
 use native.Mathlib.Omega.{arith}
-use lib.ListN.{length}
-use lib.Seq.{length-take-le}
-use Rattle.area.proofs.Parts.{from-to, length_part}
 use Rattle.lines.proofs.Adding.{adds-long}
 use Rattle.listing.specs.Listing.{lines_of}
 use Rattle.listing.proofs.Showing.{lines-few}
@@ -17,19 +13,6 @@ loop-index-init c =
     let log = c.args.log.now in
     let few = lines-few log c.examine-examined.result c.examine-examined.ensures in
     (omega arith, omega (arith, few, c.line_count-count.ensures), omega arith, refl, joins-none (lines_of log) c.args.out.now)
-
-pub line-at-requires : goal.line-at-requires
-line-at-requires c =
-    let out = c.loop-index.out in
-    let at = c.loop-index.at in
-    let inv = c.loop-index.invariant in (
-      c.examine-examined.ensures,
-      omega (arith, c.line_count-count.ensures, c.loop-index-test.true),
-      omega (arith, ap length (from-to out at 160), length_part out at 160 (omega (arith, inv.1, inv.2, inv.3, c.requires, c.loop-index-test.true))),
-    )
-
-pub overflow_add-at-in-loop-index : goal.overflow_add-at-in-loop-index
-overflow_add-at-in-loop-index c = omega (arith, c.line-at.ensures.within)
 
 pub loop-index-preserved : goal.loop-index-preserved
 loop-index-preserved c =
@@ -45,14 +28,7 @@ loop-index-preserved c =
     (omega (arith, inv.1, inv.2, inv.3, c.requires, c.loop-index-test.true)) inv.4 line.ensures in
     (omega (arith, c.loop-index-test.true), inv.1, more.0, adds-long _ _ _ _ _ more.1, more.1)
 
-pub returns : goal.returns
-returns c =
-    let inv = c.loop-index.invariant in
-    let out = c.loop-index.out in
-    let at = c.loop-index.at in
-    let fits : at ≤ length out = omega (arith, inv.3, inv.4.within) in record {
-      shows =
-          joins-all (lines_of c.args.log.now) c.args.out.now out c.loop-index.index at
-          (omega (arith, c.line_count-count.ensures, c.loop-index-test.false)) inv.4;
-      prefix_len = (fits, sym (length-take-le at out fits));
-    }
+pub returns-clause-shows : goal.returns-clause-shows
+returns-clause-shows c =
+    joins-all (lines_of c.args.log.now) c.args.out.now c.loop-index.out c.loop-index.index c.loop-index.at
+    (omega (arith, c.line_count-count.ensures, c.loop-index-test.false)) c.loop-index.invariant.4

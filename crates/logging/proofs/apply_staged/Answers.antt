@@ -11,5 +11,5 @@ pub returns : goal.returns
 returns c =
     let a = c.args in
     staged-applied (seated false a.seats.now) _ a.home.now a.frames.now _ a.staging.now a.staged _ _ _ _ _
-    (ap (λ (n : ℕ). n * 472) c.wide-at.ensures) c.wide_place-length.ensures
-    c.wide_place.ensures c.wide_place-2.ensures c.apply.ensures
+    (ap (λ (n : ℕ). n * 472) c.from-at.ensures) c.from-length.ensures
+    c.from.ensures c.from-2.ensures c.apply.ensures

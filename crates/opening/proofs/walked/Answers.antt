@@ -1,45 +1,37 @@
 -- `opening::walked` meets its contract: from the start to the last test.
 -- Assumes nothing.
-use Prim.Native.Nat.{ℕ}
-use mathlib.Core.Path.{◌≡◌, sym, ap, ◌∙◌, subst}
-use lib.ListN.{length, length-replicate}
-use Rattle.promises.specs.Areas.{frames_in}
-use Rattle.recovery.specs.declared.Stage.{Stage}
-use Rattle.recovery.specs.Walking.{walk_of, Ready}
-use Rattle.opening.proofs.Ending.{start_is_lem, start-ready, walked-finds}
-use native.Mathlib.Omega.{arith}
+use mathlib.Core.Path.{refl}
+use Rattle.std.specs.Prelude.{Ok, Err}
+use Rattle.std.proofs.lemmas.Result.{err_from_is_err_and}
+use Rattle.recovery.specs.Walking.{walk_of}
+use Rattle.promises.proofs.Replies.{numbered}
+use Rattle.opening.proofs.Ending.{start_is_lem, walked-refused, walked-passes, walked-fails}
 use Rattle.opening.proofs.walked.Goals as goal
 
-pub walk_all-stage-requires : goal.walk_all-stage-requires
-walk_all-stage-requires c =
+pub returns-in_err-stage : goal.returns-in_err-stage
+returns-in_err-stage c =
     let a = c.args in
     let p = c.requires.log_bound in
     let q = c.requires.first_bound in
-    let n : ℕ = frames_in (length a.frames.now) in
-    let long : length a.seats.now ≡ frames_in (length a.frames.now) = ap length p.5 ∙ length-replicate _ 0 in
-    let e = ap (λ (w : Stage). walk_of w a.seats.now) c.started-start.ensures ∙ start_is_lem n a.seats.now p.4 p.5 a.ticket in (
-      omega arith,
-      omega arith,
-      p.1,
-      p.2,
-      q.0,
-      q.1,
-      q.3,
-      λ z. subst (Ready a.log.now a.home.now a.first) (sym e) (start-ready a.log.now a.home.now a.first n a.ticket q.2),
-    )
+    let e = err_from_is_err_and c.from_residual.result c.from_residual.ensures.1 in
+    rw (e.1, e.2)
+    (walked-refused a.log.now a.home.now a.frames.now _ a.first a.last a.ticket _ _ (walk_of (Err c.in_err-stage.field-0.0) c.walk_all.new.seats)
+    (start_is_lem _ a.seats.now p.4 p.5 a.ticket) q.1 c.in_err-stage.ensures (numbered _))
 
-pub last_test-requires : goal.last_test-requires
-last_test-requires c =
+pub returns-in_err-last_test : goal.returns-in_err-last_test
+returns-in_err-last_test c =
     let a = c.args in
     let p = c.requires.log_bound in
     let q = c.requires.first_bound in
-    let long : length a.seats.now ≡ frames_in (length a.frames.now) = ap length p.5 ∙ length-replicate _ 0 in
-    (omega arith, omega arith, q.1)
+    let e = err_from_is_err_and c.from_residual-in_err-last_test.result c.from_residual-in_err-last_test.ensures.1 in
+    rw (e.1, e.2, c.in_err-last_test.ensures.1)
+    (walked-fails a.log.now a.home.now a.frames.now _ a.first a.last a.ticket _ _ (walk_of (Ok c.in_ok-stage.stage) c.walk_all.new.seats)
+    (start_is_lem _ a.seats.now p.4 p.5 a.ticket) q.1 c.in_ok-stage.ensures refl c.in_err-last_test.ensures.0)
 
 pub returns : goal.returns
 returns c =
     let a = c.args in
     let p = c.requires.log_bound in
     let q = c.requires.first_bound in
-    walked-finds a.log.now a.home.now a.frames.now _ a.first a.last a.ticket (frames_in (length a.frames.now)) _ _ _
-    (ap (λ (w : Stage). walk_of w a.seats.now) c.started-start.ensures ∙ start_is_lem _ a.seats.now p.4 p.5 a.ticket) q.1 c.walk_all-stage.ensures c.last_test.ensures
+    walked-passes a.log.now a.home.now a.frames.now _ a.first a.last a.ticket _ _ (walk_of (Ok c.in_ok-stage.stage) c.walk_all.new.seats)
+    (start_is_lem _ a.seats.now p.4 p.5 a.ticket) q.1 c.in_ok-stage.ensures refl c.in_ok-last_test.ensures

@@ -1,33 +1,21 @@
--- `outline::earliest` meets its contract: the lowest so far, and the first groups from index i on.
+-- `outline::earliest` meets its contract: a fold.
 -- Assumes nothing.
-use mathlib.Core.Path.{◌≡◌, refl, sym, ap, ◌∙◌}
-use mathlib.Core.Logic.{⊎_elim}
-use Prim.Native.Nat.{ℕ, ◌+◌}
+use mathlib.Core.Path.{◌∙◌}
+use Prim.Native.Nat.{min}
 use native.Mathlib.Omega.{arith}
-use lib.ListN.{length}
-use borrow.Author.Rules.{rules}
-use Rattle.table.proofs.Scans.{length-mapped, rest}
-use Rattle.outline.specs.Marks.{earliest}
-use Rattle.outline.proofs.Marking.{earliest-lower, earliest-same, earliest-end}
+use Rattle.std.proofs.Common.{rules, tests}
+use Rattle.std.proofs.lemmas.Iterator.{YieldsList-from_slice}
+use Rattle.std.proofs.lemmas.Iterator.Consumers.{fold_from_yields_List}
+use Rattle.outline.proofs.Marking.{earliest-fold, earliest-most}
 use Rattle.outline.proofs.earliest.Goals as goal
 
-pub loop-i-init : goal.loop-i-init
-loop-i-init c = (search rules, search rules, refl)
-
-pub loop-i-preserved : goal.loop-i-preserved
-loop-i-preserved c =
+pub returns-clause-is : goal.returns-clause-is
+returns-clause-is c =
     let a = c.args in
-    let l = c.loop-i in
-    let long : length a.marks.entries ≡ 48 = search (rules, length-mapped) in
-    let low : ℕ → ℕ = λ x. earliest x (rest a.marks.entries a.marks.count (l.i + 1)) in
-    ⊎_elim
-    (λ w. (omega arith, omega arith, ap low w.low-is ∙ earliest-lower a.marks.entries a.marks.count l.i l.low (omega arith) (omega arith) w.if-entry-low.true ∙ l.invariant.2))
-    (λ w. (omega arith, omega arith, ap low w.low-is ∙ earliest-same a.marks.entries a.marks.count l.i l.low (omega arith) (omega arith) w.if-entry-low.false ∙ l.invariant.2))
-    c.if-entry-low.branch-raw
+    fold_from_yields_List _ (λ low m. min low m.first) _ _ c.fold.ensures.ran (YieldsList-from_slice a.marks.now.items cc) (λ low x b q k. search (rules, tests)) ∙ earliest-fold a.own a.marks.now.items
 
-pub returns : goal.returns
-returns c =
+pub returns-clause-most : goal.returns-clause-most
+returns-clause-most c =
     let a = c.args in
-    let l = c.loop-i in
-    let long : length a.marks.entries ≡ 48 = search (rules, length-mapped) in
-    (sym (earliest-end a.marks.entries a.marks.count l.i l.low (omega arith) (omega arith)) ∙ l.invariant.2, omega arith)
+    let is = fold_from_yields_List _ (λ low m. min low m.first) _ _ c.fold.ensures.ran (YieldsList-from_slice a.marks.now.items cc) (λ low x b q k. search (rules, tests)) ∙ earliest-fold a.own a.marks.now.items in
+    omega (arith, is, earliest-most a.own a.marks.now.items)

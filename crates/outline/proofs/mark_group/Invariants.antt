@@ -1,14 +1,12 @@
--- `outline::mark_group` meets its contract: what is left of the group's pages from index i on.
+-- `outline::mark_group` meets its contract: what is left of the group's pages from an index on.
 use mathlib.Core.Path.{◌≡◌}
-use Prim.Native.Nat.{◌≤◌, ◌-◌, ◌+◌}
-use lib.ListN.{take}
-use Rattle.table.proofs.Scans.{rest}
-use Rattle.outline.specs.Marks.{marks_in, marked_all}
+use Prim.Native.Nat.{◌+◌, ◌≤◌}
+use lib.ListN.{drop}
+use Rattle.arrayvec.specs.ArrayVec.{array_vec_len}
+use Rattle.outline.specs.Marks.{marked_all}
 use Rattle.outline.proofs.mark_group.Given as goal
 
-abbrev pub invariant-loop-i : goal.invariant-loop-i
-invariant-loop-i l =
-    (l.i ≤ l.count) × (l.m.count ≤ l.initial.m.count + l.i) × (marked_all l.group.start (rest l.group.pages l.count l.i) (marks_in l.m) ≡ marked_all l.group.start (take l.count l.group.pages) (marks_in l.initial.m))
-
-abbrev pub decreases-loop-i : goal.decreases-loop-i
-decreases-loop-i l = l.count - l.i
+abbrev pub invariant-loop-page : goal.invariant-loop-page
+invariant-loop-page l =
+    (array_vec_len l.marks ≤ array_vec_len l.initial.marks + l.page-index)
+    × (marked_all l.group.start (drop l.page-index l.page-items) l.marks.items ≡ marked_all l.group.start l.page-items l.initial.marks.items)

@@ -1,28 +1,22 @@
 -- `outline::mark_page` meets its contract, by whether the page is there.
 -- Assumes nothing.
 use mathlib.Core.Path.{◌≡◌, sym, ◌∙◌}
-use native.Mathlib.Omega.{arith}
-use lib.ListN.{length}
-use lib.Seq.{length-take-le}
-use borrow.Author.Rules.{rules}
-use Rattle.table.proofs.Scans.{length-mapped}
-use Rattle.outline.specs.Marks.{marks_in}
-use Rattle.outline.proofs.Marking.{take_put, marked-held, marked-new}
+use lib.Dec.{eqb}
+use Rattle.std.proofs.Common.{rules, tests}
+use Rattle.std.specs.List.{list_any}
+use Rattle.std.proofs.lemmas.Iterator.{YieldsList-from_slice}
+use Rattle.std.proofs.lemmas.Iterator.Search.{any_from_yields_List}
+use Rattle.outline.proofs.Marking.{marked-held, marked-new}
 use Rattle.outline.proofs.mark_page.Goals as goal
 
-pub returns-then-place_of-count : goal.returns-then-place_of-count
-returns-then-place_of-count c =
+pub returns-then-not-any-clause-is : goal.returns-then-not-any-clause-is
+returns-then-not-any-clause-is c =
     let a = c.args in
-    let long : length a.marks.entries ≡ 48 = search (rules, length-mapped) in
-    let size : length (marks_in a.marks) ≡ a.marks.count = length-take-le _ _ (omega arith) in
-    (sym (marked-held a.group a.page (marks_in a.marks) (omega (arith, c.place_of.ensures.0))), omega arith)
+    let answer : c.any.result ≡ list_any (λ m. eqb a.page m.page) a.marks.now.items = any_from_yields_List _ _ _ _ c.any.ensures.ran (YieldsList-from_slice a.marks.now.items cc) (λ x b q k. search (rules, tests)) in
+    c.push.ensures.items ∙ sym (marked-new a.group a.page a.marks.now.items (sym answer ∙ c.if-not-any.true))
 
-pub returns : goal.returns
-returns c =
+pub returns-else-not-any-clause-is : goal.returns-else-not-any-clause-is
+returns-else-not-any-clause-is c =
     let a = c.args in
-    let long : length a.marks.entries ≡ 48 = search (rules, length-mapped) in
-    let size : length (marks_in a.marks) ≡ a.marks.count = length-take-le _ _ (omega arith) in (
-      take_put a.marks.entries a.marks.count _ (omega arith)
-          ∙ sym (marked-new a.group a.page (marks_in a.marks) (omega (arith, c.place_of.ensures.0))),
-      omega arith,
-    )
+    let answer : c.any.result ≡ list_any (λ m. eqb a.page m.page) a.marks.now.items = any_from_yields_List _ _ _ _ c.any.ensures.ran (YieldsList-from_slice a.marks.now.items cc) (λ x b q k. search (rules, tests)) in
+    sym (marked-held a.group a.page a.marks.now.items (sym answer ∙ c.if-not-any.false))

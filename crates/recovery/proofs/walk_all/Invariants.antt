@@ -1,5 +1,6 @@
 -- `recovery::walk_all` meets its contract: what the walk leads to stays the same, turn by turn. The slot goes round beside the sequence.
-use Prim.Native.Nat.{◌≤◌, ◌-◌, ◌+◌}
+use Prim.Native.Nat.{◌≤◌, ◌+◌}
+use Rattle.std.specs.Prelude.{Ok}
 use mathlib.Core.Path.{◌≡◌}
 use lib.ListN.{length}
 use Rattle.block.specs.Legal.{slot_of}
@@ -10,9 +11,5 @@ use Rattle.recovery.proofs.walk_all.Given as goal
 
 abbrev pub invariant-loop-s : goal.invariant-loop-s
 invariant-loop-s l =
-    (l.first ≤ l.s) × (l.s ≤ l.last + 1) × (length l.frames ≡ length l.initial.frames) × (length l.seats ≡ length l.initial.seats)
-    × (l.w.refusal ≡ 0 → Ready l.log l.home l.s (walk_of l.w l.seats)) × Leading l.log l.home l.first l.last (walk_of l.initial.w l.initial.seats) l.initial.frames l.s (walk_of l.w l.seats) l.frames
-    × (l.slot ≡ slot_of (slots_in (length l.log)) l.s)
-
-abbrev pub decreases-loop-s : goal.decreases-loop-s
-decreases-loop-s l = l.last + 1 - l.s
+    (l.slot ≡ slot_of (slots_in (length l.log)) l.s) × Ready l.log l.home l.s (walk_of (Ok l.stage) l.seats) × (l.s ≤ l.last + 1)
+    × Leading l.log l.home l.first l.last (walk_of (Ok l.initial.stage) l.initial.seats) l.initial.frames l.s (walk_of (Ok l.stage) l.seats) l.frames

@@ -1,6 +1,6 @@
--- `digest` meets its contract. The loop's invariant: the digest of all bytes is that of the bytes to come from h on.
+-- `digest` meets its contract: the digest of all bytes is that of the bytes to come from h on.
 -- Assumes nothing.
-use mathlib.Core.Path.{◌≡◌, refl, sym, ap, ◌∙◌}
+use mathlib.Core.Path.{◌≡◌, sym, ap, ◌∙◌}
 use mathlib.Core.List.{List, ◌∷◌}
 use Prim.Native.Nat.{ℕ, ◌+◌, ◌*◌, ◌%◌, ◌≤◌, ◌<◌}
 use native.Mathlib.Omega.{arith}
@@ -20,19 +20,10 @@ end : (bytes : List ℕ) (h i : ℕ) → length bytes ≤ i → digest_from h (d
 unfolding digest_from
 end bytes h i l e = sym (ap (digest_from h) (drop_of_length-le bytes l)) ∙ e
 
-pub loop-i-init : goal.loop-i-init
-loop-i-init c = (omega arith, omega arith, refl)
-
-pub overflow_add-h : goal.overflow_add-h
-overflow_add-h c = omega (arith, c.type_inv.bytes c.loop-i.i, c.wide.ensures)
-
-pub overflow_add-h-in-loop-i : goal.overflow_add-h-in-loop-i
-overflow_add-h-in-loop-i c = omega (arith, c.type_inv.bytes c.loop-i.i, c.wide.ensures)
-
-pub loop-i-preserved : goal.loop-i-preserved
-loop-i-preserved c =
-    let l = c.loop-i in
-    (omega arith, omega arith, step c.args.bytes.now l.h l.i c.wide.result (omega arith) c.wide.ensures ∙ l.invariant.2)
+pub loop-byte-preserved : goal.loop-byte-preserved
+loop-byte-preserved c =
+    let l = c.loop-byte in
+    (omega arith, step c.args.bytes.now l.h l.byte-index c.from.result (omega arith) c.from.ensures ∙ l.invariant.1)
 
 pub returns : goal.returns
-returns c = let l = c.loop-i in end c.args.bytes.now l.h l.i (omega arith) l.invariant.2
+returns c = let l = c.loop-byte in end c.args.bytes.now l.h l.byte-index (omega arith) l.invariant.1

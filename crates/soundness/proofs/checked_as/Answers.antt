@@ -1,23 +1,19 @@
 -- `checked_as` meets its contract: the tests together are soundness, and one pass over the frames gives their sums.
 -- Assumes nothing.
-use mathlib.Core.Path.{◌≡◌, sym, ◌∙◌}
-use mathlib.Core.Bool.{Bool, true, false, ◌&&◌, and-true}
+use mathlib.Core.Path.{◌≡◌, refl, sym, ◌∙◌}
+use mathlib.Core.Bool.{Bool, true, false, ◌&&◌}
 use Prim.Native.Nat.{◌+◌}
-use lib.ListN.{length}
-use Rattle.area.proofs.Laws.{never_both}
+use lib.ListN.{length, take}
 use Rattle.promises.specs.declared.State.{State}
 use Rattle.promises.specs.Contents.{groups_of}
 use Rattle.promises.specs.Sound.{sizes_legal, sound_as}
-use Rattle.soundness.specs.Tests.{in_range, fitting, kind_legal, counts_legal}
+use Rattle.soundness.specs.Tests.{in_range, fitting, kind_legal, counts_legal, pages_legal, waiting_legal}
 use Rattle.soundness.proofs.Scans.{length-mapped}
 use Rattle.soundness.proofs.Counts.{addable, summed, sums-small, counts-range, counts-groups, counts-fit}
 use Rattle.soundness.proofs.Decided.{told, surveyed, none-waiting, unsound, decided}
 use borrow.Author.Rules.{rules}
 use Rattle.soundness.proofs.checked_as.Goals as goal
-
--- a refused state has no sums
-none : (copy : Bool) (s : State) (C : Type 0) → false ≡ sound_as copy s → sound_as copy s ≡ true → C
-none copy s C e t = absurd (never_both (sound_as copy s) t (sym e))
+use Rattle.soundness.proofs.checked_as.Goals.{else-count-ne0-via-then-count-ne0+else-not-staged_sound, else-count-ne0-via-else-count-ne0}
 
 -- the counts are legal where the numbers are in range, the groups and the kind legal and the sums within the sizes
 counts : (copy : Bool) (s : State) (within legal kind fits : Bool) → within ≡ in_range s → within ≡ true → legal ≡ sizes_legal (groups_of s) → kind ≡ kind_legal copy s
@@ -30,8 +26,7 @@ returns-then-not-in_range c =
     let copy = c.args.copy in
     let groups : length s.groups ≡ 32 = search rules in
     let staged : length s.staged ≡ 32 = search (rules, length-mapped) in
-    let fails = unsound copy s groups staged (sym (counts-range copy s (sym c.in_range.ensures ∙ c.if-not-in_range.true))) in
-    (c.unsound.ensures ∙ fails, none copy s _ fails)
+    sym (unsound copy s groups staged (sym (counts-range copy s (sym c.in_range.ensures ∙ c.if-not-in_range.true))))
 
 pub returns-then-not-sizes-kind_legal : goal.returns-then-not-sizes-kind_legal
 returns-then-not-sizes-kind_legal c =
@@ -40,8 +35,7 @@ returns-then-not-sizes-kind_legal c =
     let groups : length s.groups ≡ 32 = search rules in
     let staged : length s.staged ≡ 32 = search (rules, length-mapped) in
     let bad = sym (told copy s _ _ c.sizes_of-sizes.ensures.0 c.kind_legal.ensures) ∙ c.if-not-sizes-kind_legal.true in
-    let fails = unsound copy s groups staged (sym (counts-groups copy s (sym c.in_range.ensures ∙ c.if-not-in_range.false) bad)) in
-    (c.unsound-then-not-sizes-kind_legal.ensures ∙ fails, none copy s _ fails)
+    sym (unsound copy s groups staged (sym (counts-groups copy s (sym c.in_range.ensures ∙ c.if-not-in_range.false) bad)))
 
 pub fit-requires : goal.fit-requires
 fit-requires c =
@@ -50,7 +44,7 @@ fit-requires c =
     let numbers = addable s (sym c.in_range.ensures ∙ c.if-not-in_range.false) in
     let survey = c.survey_of-survey.ensures in
     let sizes = c.sizes_of-sizes.ensures in
-    (numbers, summed s _ _ _ _ groups numbers survey.3 (survey.1, survey.2) (sizes.2, sizes.3) c.left.ensures)
+    (numbers, summed s _ _ _ _ groups numbers survey.3 (survey.1, survey.2) (sizes.2, sizes.3) c.saturating_sub.ensures)
 
 pub returns-then-not-fit : goal.returns-then-not-fit
 returns-then-not-fit c =
@@ -59,11 +53,10 @@ returns-then-not-fit c =
     let groups : length s.groups ≡ 32 = search rules in
     let staged : length s.staged ≡ 32 = search (rules, length-mapped) in
     let misfit = counts copy s _ _ _ _ c.in_range.ensures c.if-not-in_range.false c.sizes_of-sizes.ensures.0 c.kind_legal.ensures c.if-not-sizes-kind_legal.false c.fit.ensures in
-    let fails = unsound copy s groups staged (misfit ∙ c.if-not-fit.true) in
-    (c.unsound-then-not-fit.ensures ∙ fails, none copy s _ fails)
+    sym (unsound copy s groups staged (misfit ∙ c.if-not-fit.true))
 
-pub returns-then-count-eq0 : goal.returns-then-count-eq0
-returns-then-count-eq0 c =
+pub returns-then-not-pages_sound : goal.returns-then-not-pages_sound
+returns-then-not-pages_sound c =
     let s = c.args.state in
     let copy = c.args.copy in
     let groups : length s.groups ≡ 32 = search rules in
@@ -71,10 +64,20 @@ returns-then-count-eq0 c =
     let survey = c.survey_of-survey.ensures in
     let sizes = c.sizes_of-sizes.ensures in
     let fits = counts copy s _ _ _ _ c.in_range.ensures c.if-not-in_range.false sizes.0 c.kind_legal.ensures c.if-not-sizes-kind_legal.false c.fit.ensures ∙ c.if-not-fit.false in
-    let sums = summed s _ _ _ _ groups (addable s (sym c.in_range.ensures ∙ c.if-not-in_range.false)) survey.3 (survey.1, survey.2) (sizes.2, sizes.3) c.left.ensures in
-    let same = decided copy s groups staged fits _ _ true sizes.2 (c.pages_sound-pages.ensures ∙ surveyed s _ _ survey.0 survey.5)
-    (none-waiting s.pages s.frames s.staged (c.sizes_of-sizes.result.updates + s.described) c.if-count-eq0.true) in
-    (sym (and-true _) ∙ same, λ t. (sums, sums-small copy s _ t sums))
+    let pages : false ≡ pages_legal s = sym c.if-not-pages_sound.true ∙ c.pages_sound.ensures ∙ surveyed s _ _ survey.0 survey.5 in
+    sym (decided copy s groups staged fits _ false _ sizes.2 pages refl)
+
+pub returns-then-not-staged_sound : goal.returns-then-not-staged_sound
+returns-then-not-staged_sound c =
+    let s = c.args.state in
+    let copy = c.args.copy in
+    let groups : length s.groups ≡ 32 = search rules in
+    let staged : length s.staged ≡ 32 = search (rules, length-mapped) in
+    let survey = c.survey_of-survey.ensures in
+    let sizes = c.sizes_of-sizes.ensures in
+    let fits = counts copy s _ _ _ _ c.in_range.ensures c.if-not-in_range.false sizes.0 c.kind_legal.ensures c.if-not-sizes-kind_legal.false c.fit.ensures ∙ c.if-not-fit.false in
+    let pages : true ≡ pages_legal s = sym c.if-not-pages_sound.false ∙ c.pages_sound.ensures ∙ surveyed s _ _ survey.0 survey.5 in
+    sym (decided copy s groups staged fits _ true false sizes.2 pages (sym c.if-not-staged_sound.true ∙ c.staged_sound.ensures))
 
 pub returns : goal.returns
 returns c =
@@ -85,6 +88,12 @@ returns c =
     let survey = c.survey_of-survey.ensures in
     let sizes = c.sizes_of-sizes.ensures in
     let fits = counts copy s _ _ _ _ c.in_range.ensures c.if-not-in_range.false sizes.0 c.kind_legal.ensures c.if-not-sizes-kind_legal.false c.fit.ensures ∙ c.if-not-fit.false in
-    let sums = summed s _ _ _ _ groups (addable s (sym c.in_range.ensures ∙ c.if-not-in_range.false)) survey.3 (survey.1, survey.2) (sizes.2, sizes.3) c.left.ensures in
-    let same = decided copy s groups staged fits _ _ _ sizes.2 (c.pages_sound-pages.ensures ∙ surveyed s _ _ survey.0 survey.5) c.staged_sound-waiting.ensures in
-    (same, λ t. (sums, sums-small copy s _ t sums))
+    let sums = summed s _ _ _ _ groups (addable s (sym c.in_range.ensures ∙ c.if-not-in_range.false)) survey.3 (survey.1, survey.2) (sizes.2, sizes.3) c.saturating_sub.ensures in
+    let pages : true ≡ pages_legal s = sym c.if-not-pages_sound.false ∙ c.pages_sound.ensures ∙ surveyed s _ _ survey.0 survey.5 in
+    let waiting : true ≡ waiting_legal s.pages s.frames (take (c.sizes_of-sizes.result.updates + s.described) s.staged) =
+    elim c.else-count-ne0.branch [
+      | else-count-ne0-via-then-count-ne0+else-not-staged_sound w ↦ sym w.if-not-staged_sound.false ∙ w.staged_sound.ensures
+      | else-count-ne0-via-else-count-ne0 w ↦ none-waiting s.pages s.frames s.staged (c.sizes_of-sizes.result.updates + s.described) w.if-count-ne0.false
+    ] in
+    let sound : sound_as copy s ≡ true = sym (decided copy s groups staged fits _ true true sizes.2 pages waiting) in
+    (sound, sums, sums-small copy s _ sound sums)

@@ -1,13 +1,19 @@
 -- `format` meets its contract.
 -- Assumes nothing.
-use mathlib.Core.Path.{◌∙◌}
+use mathlib.Core.Path.{refl, sym, ap, ◌∙◌}
 use mathlib.Core.Logic.{inl, inr}
+use Rattle.std.specs.Prelude.{Ok}
+use Rattle.promises.specs.Answers.{refusal_in}
 use Rattle.queueing.proofs.Refusals.{format-by}
+use Rattle.store.proofs.Handed.{same-number, not-zero}
 use Rattle.store.proofs.format.Goals as goal
-use Rattle.store.proofs.format.Goals.{then-number-eq0, else-number-eq0}
+
+pub returns-in_err-format_refusal : goal.returns-in_err-format_refusal
+returns-in_err-format_refusal c =
+    let test = c.format_refusal in
+    format-by _ c.args.log.now _ (same-number test.result _ _ c.in_err-format_refusal.was c.from_residual.ensures.1 ∙ test.ensures)
+    (inr (not-zero test.result _ _ c.in_err-format_refusal.was c.from_residual.ensures.1, refl))
 
 pub returns : goal.returns
 returns c =
-    let a = c.args in
-    format-by c.format_refusal-number.result _ c.of_number.ensures a.log.now _ c.format_refusal-number.ensures.0
-    (elim c.if-number-eq0.branch [ then-number-eq0 w ↦ inl (w.if-number-eq0.true, w.log-is ∙ w.clear.ensures) | else-number-eq0 w ↦ inr (w.if-number-eq0.false, w.log-is) ])
+    format-by (Ok tt) c.args.log.now _ (sym (ap refusal_in c.in_ok-format_refusal.was) ∙ c.format_refusal.ensures) (inl (refl, c.clear.ensures))

@@ -5,11 +5,7 @@ use Rattle.block.proofs.check.joined.Given as goal
 
 abbrev pub invariant-loop-lane : goal.invariant-loop-lane
 invariant-loop-lane now =
-    (now.lane ≤ 16)
-    × (now.a ≤ 8160 * now.lane)
+    (now.a ≤ 8160 * now.lane)
     × (now.b ≤ 4455360 * now.lane)
     × (now.a ≡ sum_below now.lane (lane_sum now.lanes))
     × (now.b + sum_below now.lane (λ l. get_or now.lanes.uppers l 0) ≡ sum_below now.lane (λ l. 32 * lane_total now.lanes l + (32 - 2 * l) * lane_sum now.lanes l))
-
-abbrev pub decreases-loop-lane : goal.decreases-loop-lane
-decreases-loop-lane l = 16 - l.lane

@@ -1,9 +1,10 @@
 -- `check::rows` meets its contract. The loop's invariant: the lanes tell the bytes of the rows passed, and none is too great.
 -- Assumes nothing.
-use Rattle.std.proofs.Common.{ℕ, ◌+◌, ◌-◌, ◌≤◌, List, ◌++◌, length, take, drop, sym, subst, append_assoc, append-nil, arith, take_all}
+use Rattle.std.proofs.Common.{◌≡◌, ℕ, ◌+◌, ◌*◌, ◌≤◌, List, [], ◌++◌, get_or, take, sym, ap, ◌∙◌, subst, append_assoc, append-nil, arith, take_all}
+use Rattle.std.specs.List.{concat}
 use Rattle.block.specs.Lanes.{LanesMost}
 use Rattle.block.specs.declared.check.Lanes.{Lanes}
-use Rattle.block.proofs.Lanes.{Read, none_read, row_read, row_next, row-long, row-byte}
+use Rattle.block.proofs.Lanes.{Read, none_read, row_read, rows-next}
 use Rattle.block.proofs.check.rows.Goals as goal
 
 -- what a row asks of the lanes
@@ -11,46 +12,43 @@ ready : (lanes : Lanes) (bytes : List ℕ) (count : ℕ) → count ≤ 480 → R
     → LanesMost 3825 lanes.uppers × LanesMost 57375 lanes.uppertotals
 ready lanes bytes count few read = ((λ l h. omega (arith, read.upper l h)), (λ l h. omega (arith, read.uppers l h)))
 
-pub row-lanes-requires : goal.row-lanes-requires
-row-lanes-requires c =
-    let lanes = ready _ _ 0 (omega arith) none_read in
-    (c.requires.0, lanes.0, lanes.1)
+pub row-requires : goal.row-requires
+row-requires c = ready _ _ 0 (omega arith) none_read
 
-pub loop-i-init : goal.loop-i-init
-loop-i-init c =
+pub loop-bytes-init : goal.loop-bytes-init
+loop-bytes-init c =
     let first = c.args.first.now in
     let read =
-    row_read _ _ first 0 c.row-lanes.result (omega arith) c.requires.0 (λ i h. omega (arith, c.type_inv.first i))
-    c.row-lanes.ensures none_read in
-    (omega arith, omega arith, subst (λ (l : List ℕ). Read c.row-lanes.result l 32) (sym (append-nil first)) read)
+    row_read _ _ first 0 c.row.new.lanes (omega arith) c.told-first (λ i h. c.row.ensures.small i)
+    c.row.ensures.added none_read in
+    subst (λ (l : List ℕ). Read c.row.new.lanes l 32) (sym (append-nil first)) read
 
-pub row-lanes-requires-in-loop-i : goal.row-lanes-requires-in-loop-i
-row-lanes-requires-in-loop-i c =
-    let at = c.loop-i in
-    let lanes = ready at.lanes _ (at.i + 32) (omega arith) at.invariant.2 in
-    (row-long c.args.more.now at.i (omega arith), lanes.0, lanes.1)
+pub row-requires-in-loop-bytes : goal.row-requires-in-loop-bytes
+row-requires-in-loop-bytes c =
+    let at = c.loop-bytes in
+    ready at.lanes _ (32 * at.bytes-index + 32) (omega arith) at.invariant
 
-pub loop-i-preserved : goal.loop-i-preserved
-loop-i-preserved c =
-    let at = c.loop-i in
-    let i = at.i in
+pub loop-bytes-preserved : goal.loop-bytes-preserved
+loop-bytes-preserved c =
+    let at = c.loop-bytes in
+    let i = at.bytes-index in
     let first = c.args.first.now in
     let more = c.args.more.now in
-    let row = take (i + 32 - i) (drop i more) in
-    let few : i + 32 ≤ length more = omega arith in
+    let row = get_or more i [] in
+    let added = c.row-in-loop-bytes.ensures in
     let read =
-    row_read at.lanes (first ++ take i more) row (i + 32) c.row-lanes-in-loop-i.result (omega arith) (row-long more i few)
-    (λ l h. omega (arith, row-byte more i l h, c.type_inv.more (i + l))) c.row-lanes-in-loop-i.ensures at.invariant.2 in (
-      omega arith,
-      omega arith,
-      rw (append_assoc first (take i more) row, row_next more i) at read,
-    )
+    row_read at.lanes (first ++ concat (take i more)) row (32 * i + 32) c.row-in-loop-bytes.new.lanes (omega arith)
+    (c.told-more i (omega arith)) (λ k h. added.small k) added.added at.invariant in
+    let bytes : first ++ concat (take i more) ++ row ≡ first ++ concat (take (i + 1) more) =
+    append_assoc first (concat (take i more)) row ∙ ap (λ (l : List ℕ). first ++ l) (sym (rows-next more i (omega arith))) in
+    let count : 32 * i + 32 + 32 ≡ 32 * (i + 1) + 32 = omega arith in
+    rw (bytes, count) at read
 
 pub returns : goal.returns
 returns c =
-    let at = c.loop-i in
+    let at = c.loop-bytes in
     let first = c.args.first.now in
     let more = c.args.more.now in
     let read =
-    subst (λ (l : List ℕ). Read at.lanes (first ++ l) (at.i + 32)) (take_all at.i more c.loop-i-test.false) at.invariant.2 in
+    subst (λ (l : List (List ℕ)). Read at.lanes (first ++ concat l) (32 * at.bytes-index + 32)) (take_all at.bytes-index more (omega arith)) at.invariant in
     (read.summed, (λ l h. omega (arith, read.lower l h, read.upper l h)))

@@ -1,6 +1,6 @@
 -- `judging::laid_out` meets its contract: its four tests are those of the layout.
 -- Assumes nothing.
-use Rattle.std.proofs.Common.{sym, arith, length-take-le}
+use Rattle.std.proofs.Common.{sym, ◌∙◌, arith, length-take-le}
 use Rattle.area.specs.Part.{part}
 use Rattle.block.specs.Sizes.{body_size}
 use Rattle.block.proofs.Rules.{laid_by}
@@ -15,15 +15,13 @@ check_of-sums-requires c = length-take-le body_size c.args.slot.now (omega arith
 pub returns : goal.returns
 unfolding part
 returns c =
-    let start = c in
     let at = c.fields_at in
     let of = c.fields_of in
-    let told = c.same_fields-told in
+    let told = c.eq-told in
     let sums = c.check_of-sums in
-    let x = c.get_pair in
-    let y = c.get_pair-2 in
     let padding = c.blank-padding in
-    laid_by start.args.slot.now start.args.count start.args.block at.result of.result told.result padding.result
-    x.result y.result sums.result.a sums.result.b
-    start.requires.0 (λ i. omega (arith, c.type_inv.slot i)) start.requires.2 start.requires.3 start.requires.1
-    told.ensures at.ensures of.ensures padding.ensures x.ensures.0 y.ensures.0 sums.ensures.0 sums.ensures.1
+    laid_by c.args.slot.now c.args.count c.args.block at.result of.result told.result padding.result
+    c.from.result c.from-2.result sums.result.a sums.result.b
+    c.requires.0 (λ i. omega (arith, c.type_inv.slot i)) c.requires.2 c.requires.3 c.requires.1
+    told.ensures at.ensures of.ensures padding.ensures (c.from.ensures ∙ c.get_pair.ensures) (c.from-2.ensures ∙ c.get_pair-2.ensures)
+    sums.ensures.0 sums.ensures.1

@@ -1,11 +1,8 @@
--- `number::get_pair` meets its contract: the law of two bytes, each below 256.
+-- `number::get_pair` meets its contract: the law of two bytes.
 -- Assumes nothing.
-use Rattle.std.proofs.Common.{◌+◌, arith}
+use Rattle.std.proofs.Common.{◌∙◌}
 use Rattle.block.proofs.Stores.{pair-law}
 use Rattle.block.proofs.number.get_pair.Goals as goal
 
 pub returns : goal.returns
-returns c =
-    let slot = c.args.slot.now in
-    let place = c.args.place in
-    (pair-law slot place c.requires, omega (arith, c.type_inv.slot place, c.type_inv.slot (place + 1)))
+returns c = c.from_le_bytes.ensures ∙ pair-law c.args.slot.now c.args.place c.requires

@@ -40,38 +40,38 @@ built-long block new head copied few h p =
 pub slice_bounds-b-end : goal.slice_bounds-b-end
 slice_bounds-b-end c = omega (arith, c.put_header.array_long)
 
-long-at-b : (c : goal.After-b-4-1) → length (built c.args.new.now c.put_header.new.b c.copy.new.destination) ≡ block_size
-long-at-b c = built-long c.args.block c.args.new.now c.put_header.new.b c.copy.new.destination c.requires.1 c.put_header.ensures c.copy.ensures
+long-at-b : (c : goal.After-b-4-1) → length (built c.args.new.now c.put_header.new.b c.copy_from_slice.new.self) ≡ block_size
+long-at-b c = built-long c.args.block c.args.new.now c.put_header.new.b c.copy_from_slice.new.self c.requires.1 c.put_header.ensures c.copy_from_slice.ensures.after
 
-pub slice_bounds-copy-end : goal.slice_bounds-copy-end
-slice_bounds-copy-end c = sym (long-at-b c)
+pub slice_bounds-copy_from_slice-end : goal.slice_bounds-copy_from_slice-end
+slice_bounds-copy_from_slice-end c = sym (long-at-b c)
 
-pub copy-requires-2 : goal.copy-requires-2
-copy-requires-2 c = c.requires.0 ∙ sym (long-at-b c)
+pub copy_from_slice-requires-2 : goal.copy_from_slice-requires-2
+copy_from_slice-requires-2 c = c.requires.0 ∙ sym (long-at-b c)
 
 -- and the slot is as long
-slot-long : (c : goal.After-slice_known-2-1) → length c.copy-2.new.destination ≡ block_size
+slot-long : (c : goal.After-slice_known-2-1) → length c.copy_from_slice-2.new.self ≡ block_size
 slot-long c =
-    ap length c.copy-2.ensures
-    ∙ built-long c.args.block c.args.new.now c.put_header.new.b c.copy.new.destination c.requires.1 c.put_header.ensures c.copy.ensures
+    ap length c.copy_from_slice-2.ensures.after
+    ∙ built-long c.args.block c.args.new.now c.put_header.new.b c.copy_from_slice.new.self c.requires.1 c.put_header.ensures c.copy_from_slice.ensures.after
 
 pub slice_bounds-check_of-end : goal.slice_bounds-check_of-end
 slice_bounds-check_of-end c = omega (arith, slot-long c)
 
 pub slice_bounds-check_of-end-2 : goal.slice_bounds-check_of-end-2
-slice_bounds-check_of-end-2 c = sym (length-take-le body_size c.copy-2.new.destination (omega (arith, slot-long c)))
+slice_bounds-check_of-end-2 c = sym (length-take-le body_size c.copy_from_slice-2.new.self (omega (arith, slot-long c)))
 
 pub check_of-sums-requires : goal.check_of-sums-requires
-check_of-sums-requires c = length-take-le body_size c.copy-2.new.destination (omega (arith, slot-long c))
+check_of-sums-requires c = length-take-le body_size c.copy_from_slice-2.new.self (omega (arith, slot-long c))
 
 pub slice_bounds-copy_part-end : goal.slice_bounds-copy_part-end
 slice_bounds-copy_part-end c = sym c.put-2.array_long
 
 pub copy_part-requires : goal.copy_part-requires
 copy_part-requires c =
-    let long : length c.copy-2.new.destination ≡ block_size =
-    ap length c.copy-2.ensures
-    ∙ built-long c.args.block c.args.new.now c.put_header.new.b c.copy.new.destination c.requires.1 c.put_header.ensures c.copy.ensures in
+    let long : length c.copy_from_slice-2.new.self ≡ block_size =
+    ap length c.copy_from_slice-2.ensures.after
+    ∙ built-long c.args.block c.args.new.now c.put_header.new.b c.copy_from_slice.new.self c.requires.1 c.put_header.ensures c.copy_from_slice.ensures.after in
     (omega arith, omega (arith, c.put-2.array_long))
 
 -- the array is the block's layout, once the sums of the slot are stored
@@ -92,11 +92,11 @@ stored_is c =
     let new = c.args.new.now in
     let few = c.requires.1 in
     let sums = c.check_of-sums in
-    let array : built new c.put_header.new.b c.copy.new.destination ≡ unchecked block new =
-    built-is block new c.put_header.new.b c.copy.new.destination few c.put_header.ensures c.copy.ensures in
-    let slot : c.copy-2.new.destination ≡ unchecked block new = c.copy-2.ensures ∙ array in
+    let array : built new c.put_header.new.b c.copy_from_slice.new.self ≡ unchecked block new =
+    built-is block new c.put_header.new.b c.copy_from_slice.new.self few c.put_header.ensures c.copy_from_slice.ensures.after in
+    let slot : c.copy_from_slice-2.new.self ≡ unchecked block new = c.copy_from_slice-2.ensures.after ∙ array in
     let checked : c.put-2.new.block ≡ layout block new =
-    laid block new c.copy-2.new.destination c.put.new.block c.put-2.new.block sums.result.a sums.result.b few slot sums.ensures.0 sums.ensures.1
+    laid block new c.copy_from_slice-2.new.self c.put.new.block c.put-2.new.block sums.result.a sums.result.b few slot sums.ensures.0 sums.ensures.1
     (c.put.ensures ∙ ap (λ (l : List ℕ). sets l 508 (to_bytes 2 sums.result.a)) array) c.put-2.ensures in
     c.copy_part.ensures
     ∙ ap (λ (l : List ℕ). splice l body_size 4 (part c.put-2.new.block body_size 4)) slot

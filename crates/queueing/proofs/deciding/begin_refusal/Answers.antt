@@ -1,52 +1,38 @@
 -- `deciding::begin_refusal` meets its contract.
 -- Assumes nothing.
-use mathlib.Core.Path.{◌≡◌, sym, ◌∙◌}
-use mathlib.Core.Bool.{true}
-use borrow.Author.Tests.{not-true, not-false, eq-eqb, ne_eqb}
-use Rattle.promises.specs.Sound.{sound}
-use Rattle.promises.specs.Begin.{begin_in_range, begin_refusal}
-use Rattle.queueing.proofs.Refusals.{in-range-most}
-use native.Mathlib.Omega.{arith}
+use mathlib.Core.Path.{sym, ◌∙◌}
+use mathlib.Core.Bool.{false}
+use borrow.Author.Tests.{eq-eqb, ne_eqb}
+use Rattle.promises.specs.Begin.{begin_refusal}
+use Rattle.promises.proofs.Replies.{refused-with}
+use Rattle.soundness.proofs.Verdicts.{judged_ok, judged_err}
 use Rattle.queueing.proofs.deciding.begin_refusal.Goals as goal
 
-pub returns-then-not-verdict : goal.returns-then-not-verdict
+pub returns-in_err-sums : goal.returns-in_err-sums
 unfolding begin_refusal
-returns-then-not-verdict c = (simp (sym c.requires.0 ∙ not-true _ c.if-not-verdict.true), omega arith)
+returns-in_err-sums c =
+    let unsound = judged_err false c.args.state c.args.verdict _ c.requires (sym c.ok_or.ensures.value ∙ c.in_err-sums.was) in
+    refused-with _ _ c.from_residual.ensures.1 ∙ unsound.1 ∙ simp (unsound.0)
 
 pub returns-then-not-begin_in_range : goal.returns-then-not-begin_in_range
 unfolding begin_refusal
-returns-then-not-begin_in_range c = (simp (sym c.requires.0 ∙ not-false _ c.if-not-verdict.false, sym c.begin_in_range.ensures ∙ c.if-not-begin_in_range.true), omega arith)
+returns-then-not-begin_in_range c = simp ((judged_ok false c.args.state c.args.verdict _ c.requires (sym c.ok_or.ensures.value ∙ c.in_ok-sums.was)).0, sym c.begin_in_range.ensures ∙ c.if-not-begin_in_range.true)
 
 pub returns-then-state-ne0 : goal.returns-then-state-ne0
 unfolding begin_refusal
-returns-then-state-ne0 c = (simp (sym c.requires.0 ∙ not-false _ c.if-not-verdict.false, sym c.begin_in_range.ensures ∙ c.if-not-begin_in_range.false, ne_eqb _ _ c.if-state-ne0.true), omega arith)
-
-pub sequences_left-requires : goal.sequences_left-requires
-sequences_left-requires c =
-    let args = c.args in
-    let t : sound args.state ≡ true = sym c.requires.0 ∙ not-false _ c.if-not-verdict.false in
-    let r : begin_in_range args.state args.u ≡ true = sym c.begin_in_range.ensures ∙ c.if-not-begin_in_range.false in
-    let sums = c.requires.1 t in
-    (sums.0, sums.1, in-range-most args.state args.u r)
+returns-then-state-ne0 c = simp ((judged_ok false c.args.state c.args.verdict _ c.requires (sym c.ok_or.ensures.value ∙ c.in_ok-sums.was)).0, sym c.begin_in_range.ensures ∙ c.if-not-begin_in_range.false, ne_eqb _ _ c.if-state-ne0.true)
 
 pub returns-then-not-sequences_left : goal.returns-then-not-sequences_left
 unfolding begin_refusal
-returns-then-not-sequences_left c = (simp (sym c.requires.0 ∙ not-false _ c.if-not-verdict.false, sym c.begin_in_range.ensures ∙ c.if-not-begin_in_range.false, eq-eqb _ _ c.if-state-ne0.false, sym c.sequences_left.ensures ∙ c.if-not-sequences_left.true), omega arith)
-
-pub begin_has_room-requires : goal.begin_has_room-requires
-begin_has_room-requires c =
-    let args = c.args in
-    let t : sound args.state ≡ true = sym c.requires.0 ∙ not-false _ c.if-not-verdict.false in
-    let r : begin_in_range args.state args.u ≡ true = sym c.begin_in_range.ensures ∙ c.if-not-begin_in_range.false in
-    let sums = c.requires.1 t in
-    (sums.0, sums.1, in-range-most args.state args.u r)
+returns-then-not-sequences_left c =
+    simp ((judged_ok false c.args.state c.args.verdict _ c.requires (sym c.ok_or.ensures.value ∙ c.in_ok-sums.was)).0, sym c.begin_in_range.ensures ∙ c.if-not-begin_in_range.false, eq-eqb _ _ c.if-state-ne0.false, sym c.sequences_left.ensures ∙ c.if-not-sequences_left.true)
 
 pub returns-then-not-begin_has_room : goal.returns-then-not-begin_has_room
 unfolding begin_refusal
 returns-then-not-begin_has_room c =
-    (simp (sym c.requires.0 ∙ not-false _ c.if-not-verdict.false, sym c.begin_in_range.ensures ∙ c.if-not-begin_in_range.false, eq-eqb _ _ c.if-state-ne0.false, sym c.sequences_left.ensures ∙ c.if-not-sequences_left.false, sym c.begin_has_room.ensures ∙ c.if-not-begin_has_room.true), omega arith)
+    simp ((judged_ok false c.args.state c.args.verdict _ c.requires (sym c.ok_or.ensures.value ∙ c.in_ok-sums.was)).0, sym c.begin_in_range.ensures ∙ c.if-not-begin_in_range.false, eq-eqb _ _ c.if-state-ne0.false, sym c.sequences_left.ensures ∙ c.if-not-sequences_left.false, sym c.begin_has_room.ensures ∙ c.if-not-begin_has_room.true)
 
 pub returns : goal.returns
 unfolding begin_refusal
 returns c =
-    (simp (sym c.requires.0 ∙ not-false _ c.if-not-verdict.false, sym c.begin_in_range.ensures ∙ c.if-not-begin_in_range.false, eq-eqb _ _ c.if-state-ne0.false, sym c.sequences_left.ensures ∙ c.if-not-sequences_left.false, sym c.begin_has_room.ensures ∙ c.if-not-begin_has_room.false), omega arith)
+    simp ((judged_ok false c.args.state c.args.verdict _ c.requires (sym c.ok_or.ensures.value ∙ c.in_ok-sums.was)).0, sym c.begin_in_range.ensures ∙ c.if-not-begin_in_range.false, eq-eqb _ _ c.if-state-ne0.false, sym c.sequences_left.ensures ∙ c.if-not-sequences_left.false, sym c.begin_has_room.ensures ∙ c.if-not-begin_has_room.false)

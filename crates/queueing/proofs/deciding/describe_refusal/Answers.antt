@@ -1,38 +1,43 @@
 -- `deciding::describe_refusal` meets its contract.
 -- Assumes nothing.
 use mathlib.Core.Path.{sym, ◌∙◌}
+use mathlib.Core.Bool.{false}
 use borrow.Author.Tests.{eq-eqb, ne_eqb, lt-ltb, le-ltb}
 use Rattle.promises.specs.Describe.{describe_refusal}
+use Rattle.promises.proofs.Replies.{refused-with}
 use Rattle.promises.proofs.Soundness.{sound-of}
+use Rattle.soundness.proofs.Verdicts.{judged_ok, judged_err}
 use native.Mathlib.Omega.{arith}
 use Rattle.queueing.proofs.deciding.describe_refusal.Goals as goal
 
-pub returns-then-not-holds : goal.returns-then-not-holds
+pub returns-in_err-sums-clause-refusal : goal.returns-in_err-sums-clause-refusal
 unfolding describe_refusal
-returns-then-not-holds c = (simp (sym c.requires ∙ c.if-not-holds.true), omega arith)
+returns-in_err-sums-clause-refusal c =
+    let unsound = judged_err false c.args.state c.args.verdict _ c.requires (sym c.ok_or.ensures.value ∙ c.in_err-sums.was) in
+    refused-with _ _ c.from_residual.ensures.1 ∙ unsound.1 ∙ simp (unsound.0)
 
 pub overflow_mul-state : goal.overflow_mul-state
-overflow_mul-state c = omega (arith, (sound-of c.args.state (sym c.requires ∙ c.if-not-holds.false)).frames.1)
+overflow_mul-state c = omega (arith, (sound-of c.args.state (judged_ok false c.args.state c.args.verdict _ c.requires (sym c.ok_or.ensures.value ∙ c.in_ok-sums.was)).0).frames.1)
 
-pub returns-then-staging-state : goal.returns-then-staging-state
+pub returns-then-staging-state-clause-refusal : goal.returns-then-staging-state-clause-refusal
 unfolding describe_refusal
-returns-then-staging-state c = (simp (sym c.requires ∙ c.if-not-holds.false, ne_eqb _ _ c.if-staging-state.true), omega arith)
+returns-then-staging-state-clause-refusal c = simp ((judged_ok false c.args.state c.args.verdict _ c.requires (sym c.ok_or.ensures.value ∙ c.in_ok-sums.was)).0, ne_eqb _ _ c.if-staging-state.true)
 
-pub returns-then-state-eq0 : goal.returns-then-state-eq0
+pub returns-then-state-eq0-clause-refusal : goal.returns-then-state-eq0-clause-refusal
 unfolding describe_refusal
-returns-then-state-eq0 c = (simp (sym c.requires ∙ c.if-not-holds.false, eq-eqb _ _ c.if-staging-state.false, eq-eqb _ _ c.if-state-eq0.true), omega arith)
+returns-then-state-eq0-clause-refusal c = simp ((judged_ok false c.args.state c.args.verdict _ c.requires (sym c.ok_or.ensures.value ∙ c.in_ok-sums.was)).0, eq-eqb _ _ c.if-staging-state.false, eq-eqb _ _ c.if-state-eq0.true)
 
-pub returns-then-not-legal_place : goal.returns-then-not-legal_place
+pub returns-then-not-legal_place-clause-refusal : goal.returns-then-not-legal_place-clause-refusal
 unfolding describe_refusal
-returns-then-not-legal_place c =
-    (simp (sym c.requires ∙ c.if-not-holds.false, eq-eqb _ _ c.if-staging-state.false, ne_eqb _ _ c.if-state-eq0.false, sym c.legal_place.ensures ∙ c.if-not-legal_place.true), omega arith)
+returns-then-not-legal_place-clause-refusal c =
+    simp ((judged_ok false c.args.state c.args.verdict _ c.requires (sym c.ok_or.ensures.value ∙ c.in_ok-sums.was)).0, eq-eqb _ _ c.if-staging-state.false, ne_eqb _ _ c.if-state-eq0.false, sym c.legal_place.ensures ∙ c.if-not-legal_place.true)
 
-pub returns-then-state : goal.returns-then-state
+pub returns-then-state-clause-refusal : goal.returns-then-state-clause-refusal
 unfolding describe_refusal
-returns-then-state c =
-    (simp (sym c.requires ∙ c.if-not-holds.false, eq-eqb _ _ c.if-staging-state.false, ne_eqb _ _ c.if-state-eq0.false, sym c.legal_place.ensures ∙ c.if-not-legal_place.false, lt-ltb _ _ c.if-state.true), omega arith)
+returns-then-state-clause-refusal c =
+    simp ((judged_ok false c.args.state c.args.verdict _ c.requires (sym c.ok_or.ensures.value ∙ c.in_ok-sums.was)).0, eq-eqb _ _ c.if-staging-state.false, ne_eqb _ _ c.if-state-eq0.false, sym c.legal_place.ensures ∙ c.if-not-legal_place.false, lt-ltb _ _ c.if-state.true)
 
-pub returns : goal.returns
+pub returns-clause-refusal : goal.returns-clause-refusal
 unfolding describe_refusal
-returns c =
-    (simp (sym c.requires ∙ c.if-not-holds.false, eq-eqb _ _ c.if-staging-state.false, ne_eqb _ _ c.if-state-eq0.false, sym c.legal_place.ensures ∙ c.if-not-legal_place.false, le-ltb _ _ c.if-state.false), omega arith)
+returns-clause-refusal c =
+    simp ((judged_ok false c.args.state c.args.verdict _ c.requires (sym c.ok_or.ensures.value ∙ c.in_ok-sums.was)).0, eq-eqb _ _ c.if-staging-state.false, ne_eqb _ _ c.if-state-eq0.false, sym c.legal_place.ensures ∙ c.if-not-legal_place.false, le-ltb _ _ c.if-state.false)

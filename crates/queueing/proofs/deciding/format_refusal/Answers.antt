@@ -4,11 +4,10 @@ use mathlib.Core.Path.{sym, ap, ◌∙◌}
 use mathlib.Core.Bool.{Bool, cond}
 use Prim.Native.Nat.{ℕ}
 use Rattle.queueing.proofs.Refusals.{log-fits}
-use native.Mathlib.Omega.{arith}
 use Rattle.queueing.proofs.deciding.format_refusal.Goals as goal
 
 pub returns-then-slots-length : goal.returns-then-slots-length
-returns-then-slots-length c = (sym (ap (λ (b : Bool). cond {A = ℕ} b 0 1) (sym (log-fits c.args.length) ∙ c.if-slots-length.true)), omega arith)
+returns-then-slots-length c = sym (ap (λ (b : Bool). cond {A = ℕ} b 0 1) (sym (log-fits c.args.length) ∙ c.if-slots-length.true))
 
 pub returns : goal.returns
-returns c = (sym (ap (λ (b : Bool). cond {A = ℕ} b 0 1) (sym (log-fits c.args.length) ∙ c.if-slots-length.false)), omega arith)
+returns c = sym (ap (λ (b : Bool). cond {A = ℕ} b 0 1) (sym (log-fits c.args.length) ∙ c.if-slots-length.false))

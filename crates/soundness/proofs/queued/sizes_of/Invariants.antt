@@ -1,15 +1,13 @@
--- `queued::sizes_of` meets its contract. The loop's invariant: what is told is told of the groups seen, the last ones.
-use Prim.Native.Nat.{◌-◌, ◌*◌, ◌≤◌}
+-- `queued::sizes_of` meets its contract. The loop's invariant: what is told of the groups seen, and what is left, make the whole.
+use Prim.Native.Nat.{◌+◌, ◌*◌, ◌≤◌}
 use mathlib.Core.Path.{◌≡◌}
-use lib.ListN.{drop, take, get_or}
+use mathlib.Core.Bool.{◌&&◌}
+use lib.ListN.{drop}
 use Rattle.promises.specs.Contents.{total}
 use Rattle.promises.specs.Sound.{sizes_legal}
 use Rattle.soundness.proofs.queued.sizes_of.Given as goal
 
-abbrev pub invariant-loop-i : goal.invariant-loop-i
-invariant-loop-i l =
-    let seen = drop l.i (take l.queued l.groups) in
-    (l.i ≤ l.queued) × (l.updates ≤ 255 * (l.queued - l.i)) × (l.legal ≡ sizes_legal seen) × (l.oldest ≡ get_or seen 0 0) × (l.updates ≡ total seen)
-
-abbrev pub decreases-loop-i : goal.decreases-loop-i
-decreases-loop-i l = l.i
+abbrev pub invariant-loop-size : goal.invariant-loop-size
+invariant-loop-size l =
+    let rest = drop l.size-index l.sizes in
+    (l.updates ≤ 255 * l.size-index) × ((l.legal && sizes_legal rest) ≡ sizes_legal l.sizes) × (l.updates + total rest ≡ total l.sizes)

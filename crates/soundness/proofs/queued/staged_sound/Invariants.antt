@@ -1,5 +1,4 @@
 -- `queued::staged_sound` meets its contract. The loop's invariant: what is told and gathered so far, and what is left, make the whole.
-use Prim.Native.Nat.{◌-◌, ◌≤◌}
 use mathlib.Core.Path.{◌≡◌}
 use mathlib.Core.Bool.{◌&&◌}
 use mathlib.Core.List.{◌++◌}
@@ -10,10 +9,7 @@ use Rattle.soundness.proofs.queued.staged_sound.Given as goal
 
 abbrev pub invariant-loop-i : goal.invariant-loop-i
 invariant-loop-i l =
-    let all = take l.count l.staged in
-    (l.i ≤ l.count) × (length l.list ≡ 32)
+    let all = take l.count l.fn.staged in
+    (length l.list ≡ 32)
     × ((l.legal && updates_legal l.pages l.frames (drop l.i all)) ≡ updates_legal l.pages l.frames all)
     × (take l.i l.list ++ areas_of (drop l.i all) ≡ areas_of all)
-
-abbrev pub decreases-loop-i : goal.decreases-loop-i
-decreases-loop-i l = l.count - l.i

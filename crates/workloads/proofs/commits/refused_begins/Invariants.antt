@@ -1,9 +1,0 @@
--- `commits::refused_begins` is safe and ends after count turns.
-use Prim.Native.Nat.{◌-◌, ◌≤◌}
-use Rattle.workloads.proofs.commits.refused_begins.Given as goal
-
-abbrev pub invariant-loop-i : goal.invariant-loop-i
-invariant-loop-i l = l.i ≤ l.count
-
-abbrev pub decreases-loop-i : goal.decreases-loop-i
-decreases-loop-i l = l.count - l.i

@@ -1,9 +1,0 @@
--- `reading::reads` is safe and ends after count turns.
-use Prim.Native.Nat.{◌-◌, ◌≤◌}
-use Rattle.workloads.proofs.reading.reads.Given as goal
-
-abbrev pub invariant-loop-i : goal.invariant-loop-i
-invariant-loop-i l = l.i ≤ l.count
-
-abbrev pub decreases-loop-i : goal.decreases-loop-i
-decreases-loop-i l = l.count - l.i
