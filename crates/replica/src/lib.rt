@@ -12,31 +12,29 @@ ghost use Rattle.promises.specs.Blocks.{clean, kind_in};
 ghost use Rattle.promises.specs.CopyOpen.{OpensCopy};
 ghost use Rattle.promises.specs.Feed.{store_of, feeding, Feeds};
 ghost use Rattle.feeding.specs.Tests.{block_in};
-ghost use Rattle.replica.specs.Taking.{names_page, made_of, taken_with, Closing, Closes};
+ghost use Rattle.replica.specs.Taking.{made_before, made_of, taken_with, Closing, Closes};
 
 use block::{Block, Kind};
 use cleaning::Choice;
 use feeding::Decision;
 use promises::{Cleaning, Dirty, Fed, Outcome, State, Stop};
 
-// 1 or 2 stores of this page, if it is the one that a cleaning names.
-fn stores_if(named: u16, page: usize, stores: u64) -> u64
-    ensures { result ≡ names_page named page stores }
-{
-    if usize::from(named) == page {
-        return stores;
-    }
-    0
+// The store that a clean block of a dirty page makes next: a half of the page at home, or the block's own.
+#[derive(Clone, Copy)]
+enum Next {
+    FirstHalf,
+    SecondHalf,
+    Block,
 }
 
-// How many stores of this page a cleaning has made.
-fn stores_made(cleaning: Cleaning, page: usize) -> u64
-    ensures { result ≡ made_of cleaning page }
+// The store that is next for this page: the first half, unless the cleaning names the page and has stored more.
+fn next_store(cleaning: Cleaning, page: usize) -> Next
+    ensures { made_before result ≡ made_of cleaning page }
 {
     match cleaning {
-        Cleaning::Idle | Cleaning::First(_) => 0,
-        Cleaning::Second(named) => stores_if(named, page, 1),
-        Cleaning::Third(named) => stores_if(named, page, 2),
+        Cleaning::Second(named) if usize::from(named) == page => Next::SecondHalf,
+        Cleaning::Third(named) if usize::from(named) == page => Next::Block,
+        _ => Next::FirstHalf,
     }
 }
 
@@ -107,22 +105,25 @@ fn feed_clean(
     }
     let entry = dirty[frame];
     let choice = Choice { frame, entry };
-    let made = stores_made(state.cleaning, page);
-    if made == 2 {
-        dirty[frame] = Dirty { page: 0, first: 0 };
-        return take(state, log, bytes, state.ticket, dirty, 0);
-    }
-    if made == 1 {
-        cleaning::store_second(home, frames, choice);
-        return Outcome {
-            state: state.with_cleaning(Cleaning::Third(entry.page)),
-            answer: Ok(Fed::NotYet),
-        };
-    }
-    cleaning::store_first(home, frames, choice);
-    Outcome {
-        state: state.with_cleaning(Cleaning::Second(entry.page)),
-        answer: Ok(Fed::NotYet),
+    match next_store(state.cleaning, page) {
+        Next::Block => {
+            dirty[frame] = Dirty { page: 0, first: 0 };
+            take(state, log, bytes, state.ticket, dirty, 0)
+        }
+        Next::SecondHalf => {
+            cleaning::store_second(home, frames, choice);
+            Outcome {
+                state: state.with_cleaning(Cleaning::Third(entry.page)),
+                answer: Ok(Fed::NotYet),
+            }
+        }
+        Next::FirstHalf => {
+            cleaning::store_first(home, frames, choice);
+            Outcome {
+                state: state.with_cleaning(Cleaning::Second(entry.page)),
+                answer: Ok(Fed::NotYet),
+            }
+        }
     }
 }
 

@@ -12,6 +12,7 @@ use Rattle.promises.specs.Feed.{store_of, feeding}
 use Rattle.promises.proofs.CopyFacts.{readable-copy}
 use Rattle.table.proofs.Scans.{length-mapped}
 use Rattle.feeding.specs.Tests.{block_in}
+use Rattle.replica.specs.Taking.{made_before}
 use Rattle.replica.proofs.Taking.{take-needs}
 use Rattle.replica.proofs.Cleaning.{Fits, fits, page-fits, takes-gone, feeds-gone, fitting, takes-third, feeds-third, feeds-half-one, feeds-half-two}
 use native.Mathlib.Omega.{arith}
@@ -66,34 +67,34 @@ bounds-dirty-frame c =
     let h = (fits-at a.state a.log.now a.home.now a.frames.now a.bytes.now a.fed a.page c.requires.0 c.requires.1).frame_few in
     omega arith
 
-pub offset_bounds-dirty-frame-then-made-eq2 : goal.offset_bounds-dirty-frame-then-made-eq2
-offset_bounds-dirty-frame-then-made-eq2 c =
+pub offset_bounds-dirty-frame-in-Block : goal.offset_bounds-dirty-frame-in-Block
+offset_bounds-dirty-frame-in-Block c =
     let a = c.args in
     let h = (fits-at a.state a.log.now a.home.now a.frames.now a.bytes.now a.fed a.page c.requires.0 c.requires.1).frame_few in
     omega arith
 
-pub bounds-dirty-frame-then-made-eq2 : goal.bounds-dirty-frame-then-made-eq2
-bounds-dirty-frame-then-made-eq2 c =
+pub bounds-dirty-frame-in-Block : goal.bounds-dirty-frame-in-Block
+bounds-dirty-frame-in-Block c =
     let a = c.args in
     let h = (fits-at a.state a.log.now a.home.now a.frames.now a.bytes.now a.fed a.page c.requires.0 c.requires.1).frame_few in
     omega arith
 
-pub take-requires-then-made-eq2 : goal.take-requires-then-made-eq2
-take-requires-then-made-eq2 c =
+pub take-requires-in-Block : goal.take-requires-in-Block
+take-requires-in-Block c =
     let a = c.args in
     let x = block_in a.fed a.bytes.now in
     let k = kind_at a.bytes.now a.fed.kind a.page c.requires.0 in
     take-needs a.state a.log.now a.home.now a.frames.now a.bytes.now x
     (takes-third a.state a.log.now a.home.now a.frames.now a.bytes.now a.page x k c.requires.1 _ c.frame_of-frame.ensures.0 (omega arith)
-    _ refl (sym c.stores_made-made.ensures ∙ c.if-made-eq2.true))
+    _ refl (sym c.next_store.ensures ∙ ap made_before c.in-Block.is))
 
-pub returns-then-made-eq2 : goal.returns-then-made-eq2
-returns-then-made-eq2 c =
+pub returns-in-Block : goal.returns-in-Block
+returns-in-Block c =
     let a = c.args in
     let x = block_in a.fed a.bytes.now in
     let k = kind_at a.bytes.now a.fed.kind a.page c.requires.0 in
     feeds-third a.state a.log.now a.home.now a.frames.now a.bytes.now a.page x k c.requires.1 _ c.frame_of-frame.ensures.0 (omega arith)
-    _ refl (sym c.stores_made-made.ensures ∙ c.if-made-eq2.true) (search (rules, length-mapped)) _ _ c.take-then-made-eq2.ensures.0 c.take-then-made-eq2.ensures.1
+    _ refl (sym c.next_store.ensures ∙ ap made_before c.in-Block.is) (search (rules, length-mapped)) _ _ c.take-in-Block.ensures.0 c.take-in-Block.ensures.1
 
 pub store_second-requires : goal.store_second-requires
 store_second-requires c =
@@ -102,13 +103,13 @@ store_second-requires c =
     let k = kind_at a.bytes.now a.fed.kind a.page c.requires.0 in
     fitting a.state a.log.now a.home.now a.frames.now a.bytes.now a.page x k c.requires.1 _ c.frame_of-frame.ensures.0 (omega arith) _ refl
 
-pub returns-then-made-eq1 : goal.returns-then-made-eq1
-returns-then-made-eq1 c =
+pub returns-in-SecondHalf : goal.returns-in-SecondHalf
+returns-in-SecondHalf c =
     let a = c.args in
     let x = block_in a.fed a.bytes.now in
     let k = kind_at a.bytes.now a.fed.kind a.page c.requires.0 in
     feeds-half-two a.state a.log.now a.home.now a.frames.now a.bytes.now a.page x k c.requires.1 _ c.frame_of-frame.ensures.0 (omega arith)
-    _ refl (sym c.stores_made-made.ensures ∙ c.if-made-eq1.true) _ _ refl c.with_cleaning.ensures c.store_second.ensures
+    _ refl (sym c.next_store.ensures ∙ ap made_before c.in-SecondHalf.is) _ _ refl c.with_cleaning.ensures c.store_second.ensures
 
 pub store_first-requires : goal.store_first-requires
 store_first-requires c =
@@ -117,10 +118,11 @@ store_first-requires c =
     let k = kind_at a.bytes.now a.fed.kind a.page c.requires.0 in
     fitting a.state a.log.now a.home.now a.frames.now a.bytes.now a.page x k c.requires.1 _ c.frame_of-frame.ensures.0 (omega arith) _ refl
 
-pub returns : goal.returns
-returns c =
+pub returns-in-FirstHalf : goal.returns-in-FirstHalf
+returns-in-FirstHalf c =
+    let none = sym c.next_store.ensures ∙ ap made_before c.in-FirstHalf.is in
     let a = c.args in
     let x = block_in a.fed a.bytes.now in
     let k = kind_at a.bytes.now a.fed.kind a.page c.requires.0 in
     feeds-half-one a.state a.log.now a.home.now a.frames.now a.bytes.now a.page x k c.requires.1 _ c.frame_of-frame.ensures.0 (omega arith)
-    _ refl (λ e. c.if-made-eq2.false (c.stores_made-made.ensures ∙ e)) (λ e. c.if-made-eq1.false (c.stores_made-made.ensures ∙ e)) _ _ refl c.with_cleaning-2.ensures c.store_first.ensures
+    _ refl (λ e. omega (arith, none, e)) (λ e. omega (arith, none, e)) _ _ refl c.with_cleaning-in-FirstHalf.ensures c.store_first.ensures
