@@ -12,7 +12,6 @@ use denote.Ref.{Bor}
 use Rattle.area.proofs.Laws.{by_cases}
 use Rattle.area.specs.Part.{part, splice}
 use Rattle.area.proofs.Parts.{from-to, part-all}
-use borrow.Author.Tests.{lt-ltb, le-ltb}
 use Rattle.promises.specs.declared.Dirty.{Dirty}
 use Rattle.promises.specs.declared.Staged.{Staged}
 use Rattle.promises.specs.Sums.{first_groups}
@@ -29,7 +28,7 @@ use Rattle.promises.proofs.Changes.{bytes_at, held-shows}
 use Rattle.promises.proofs.Describing.{describe-met}
 use Rattle.promises.specs.States.{free, set_staged, set_open}
 use Rattle.soundness.proofs.Scans.{from_cons}
-use Rattle.queueing.specs.Queueing.{update_of, held_at}
+use Rattle.queueing.specs.Queueing.{update_of}
 
 -- a readable state has at most 32 frames
 pub frames_most : (s : State) → readable s ≡ true → s.frames ≤ 32
@@ -43,8 +42,8 @@ module _ (page : ℕ) (entries : List Dirty) (i : ℕ) where
   unfolding held_in
   held-turn h = rw (from_cons entries i free h, add-one)
 
-  pub held-here : (frames : ℕ) → i < length entries → i < frames → here ≡ true → held_in page i (drop i entries) ≡ held_at frames i
-  held-here frames h l e = held-turn h ∙ ap (λ (b : Bool). cond b (in_frame i) (held_in page (i + 1) (drop (i + 1) entries))) e ∙ sym (rw (lt-ltb i frames l))
+  pub held-here : i < length entries → here ≡ true → held_in page i (drop i entries) ≡ in_frame i
+  held-here h e = held-turn h ∙ ap (λ (b : Bool). cond b (in_frame i) (held_in page (i + 1) (drop (i + 1) entries))) e
 
   pub held-later : i < length entries → here ≡ false → held_in page i (drop i entries) ≡ held_in page (i + 1) (drop (i + 1) entries)
   held-later h e = held-turn h ∙ ap (λ (b : Bool). cond b (in_frame i) (held_in page (i + 1) (drop (i + 1) entries))) e
@@ -60,9 +59,9 @@ none-held page frame (entry ∷ later) h =
 
 -- past the last frame no page is held
 pub held-home : (page frames i : ℕ) (entries : List Dirty) → i ≡ frames → length (first_groups (drop frames entries)) ≡ 0
-    → held_in page i (drop i entries) ≡ held_at frames i
+    → held_in page i (drop i entries) ≡ at_home
 held-home page frames i entries e h =
-    ap (λ (n : ℕ). held_in page i (drop n entries)) e ∙ none-held page i (drop frames entries) h ∙ sym (rw (le-ltb i frames (omega arith)))
+    ap (λ (n : ℕ). held_in page i (drop n entries)) e ∙ none-held page i (drop frames entries) h
 
 -- ---- Read
 
@@ -81,16 +80,16 @@ module _ (s : State) (home frames : Bor (List ℕ)) (page number : ℕ) (is : nu
     bytes_are = λ z. bytes ∙ sym (held-shows home.now frames.now page 0 s.dirty ∙ ap (λ (h : Held). bytes_at h home.now frames.now page) e);
   }
 
-  pub read-frame : (frame : ℕ) → held_in page 0 s.dirty ≡ held_at s.frames frame → frame < s.frames → number ≡ 0
+  pub read-frame : (frame : ℕ) → held_in page 0 s.dirty ≡ in_frame frame → number ≡ 0
       → result.ref_ptr ≡ (frames.ref_ptr.0, frame * 1024 + frames.ref_ptr.1) → result.now ≡ take (frame * 1024 + 1024 - frame * 1024) (drop (frame * 1024) frames.now)
       → Reads s home frames page number result
-  read-frame frame e l zero place bytes =
-      read_held (in_frame frame) (e ∙ rw (lt-ltb frame s.frames l)) zero place (bytes ∙ from-to frames.now (frame * 1024) 1024)
+  read-frame frame e zero place bytes =
+      read_held (in_frame frame) e zero place (bytes ∙ from-to frames.now (frame * 1024) 1024)
 
-  pub read-home : (frame : ℕ) → held_in page 0 s.dirty ≡ held_at s.frames frame → s.frames ≤ frame → number ≡ 0
+  pub read-home : held_in page 0 s.dirty ≡ at_home → number ≡ 0
       → result.ref_ptr ≡ (home.ref_ptr.0, page * 1024 + home.ref_ptr.1) → result.now ≡ take (page * 1024 + 1024 - page * 1024) (drop (page * 1024) home.now)
       → Reads s home frames page number result
-  read-home frame e l zero place bytes = read_held at_home (e ∙ rw (le-ltb frame s.frames l)) zero place (bytes ∙ from-to home.now (page * 1024) 1024)
+  read-home e zero place bytes = read_held at_home e zero place (bytes ∙ from-to home.now (page * 1024) 1024)
 
 -- ---- Describe
 

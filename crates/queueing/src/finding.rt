@@ -1,8 +1,8 @@
 // Where accepted calls find room or a page.
-ghost use Rattle.std.specs.Prelude.{◌≡◌, true, false, ◌<◌, ◌≤◌, take};
+ghost use Rattle.std.specs.Prelude.{◌≡◌, true, false, ◌<◌, ◌≤◌, take, IfSome};
 ghost use Rattle.promises.specs.Sound.{readable, member, areas_of};
 ghost use Rattle.promises.specs.Read.{held_in};
-ghost use Rattle.queueing.specs.Queueing.{held_at};
+ghost use Rattle.queueing.specs.Queueing.{held_by};
 
 use promises::{Staged, State};
 
@@ -20,17 +20,18 @@ pub fn free_area(staged: [Staged; 32], count: usize, frames: usize) -> u8
     unreachable!()
 }
 
-// The frame that holds a page; the count of frames where the page is at home.
+// The frame that holds a page; none where the page is at home.
 #[tactic(auto, using(crate::proofs::Places::frames_most))]
-pub fn frame_of(state: State, page: u16) -> usize
+pub fn frame_of(state: State, page: u16) -> Option<usize>
     requires { readable state ≡ true }
-    ensures { (held_in page 0 state.dirty ≡ held_at state.frames result) × (result ≤ state.frames) }
+    ensures held { held_in page 0 state.dirty ≡ held_by result }
+    ensures below { IfSome result (λ frame. frame < state.frames) }
 {
     let dirty = &state.dirty[..state.frames];
     for (frame, entry) in dirty.iter().enumerate() {
         if (entry.first != 0) & (page == entry.page) {
-            return frame;
+            return Some(frame);
         }
     }
-    state.frames
+    None
 }

@@ -24,7 +24,7 @@ use Rattle.promises.specs.Answers.{fed_answered}
 use Rattle.promises.specs.Blocks.{Kind, clean, LogBlock, slots_of}
 use Rattle.promises.specs.DirtyPages.{DirtyPage, Found, absent, at, look_up, without}
 use Rattle.promises.specs.Contents.{dirty_of}
-use Rattle.promises.specs.Read.{held_in}
+use Rattle.promises.specs.Read.{at_home, in_frame, held_in}
 use Rattle.promises.specs.Sound.{copy_sound, names, member, dirty_numbers}
 use Rattle.promises.specs.States.{free, is_of, freed, set_cleaning}
 use Rattle.promises.specs.Walk.{Walk, walk_block}
@@ -39,7 +39,6 @@ use Rattle.table.proofs.Entries.{freed-is}
 use Rattle.table.proofs.Holding.{sound-holds-as}
 use Rattle.stepping.specs.Tables.{table_with, table_of}
 use Rattle.stepping.proofs.Held.{held-named}
-use Rattle.queueing.specs.Queueing.{held_at}
 use Rattle.cleaning.specs.Cleans.{Fitting}
 use Rattle.cleaning.proofs.Storing.{drops-page}
 use Rattle.replica.specs.Taking.{made_of, taken_with}
@@ -189,29 +188,30 @@ module _ (s : State) (log home frames bytes : List ℕ) (page : ℕ) (x : LogBlo
       (i ∙ ap (λ (v : Walk). taken_with s v.ticket dirty (length v.group)) (sym walk-clean)) l
       (subst (λ (c : Kind). FramesAfter c s.dirty frames dirty frames) (sym k) (d, refl))
 
-  module _ (frame : ℕ) (held : held_in page 0 s.dirty ≡ held_at s.frames frame) where
+  module _ (held : held_in page 0 s.dirty ≡ at_home) where
     -- the page is not dirty
-    pub takes-gone : s.frames ≤ frame → feeding s log home frames bytes ≡ takes x
-    takes-gone h = e ∙ ap (λ (f : Found). clean_found s.cleaning page f x) (not-dirty page s.frames frame frames s.dirty held h)
+    pub takes-gone : feeding s log home frames bytes ≡ takes x
+    takes-gone = e ∙ ap (λ (f : Found). clean_found s.cleaning page f x) (not-dirty page frames s.dirty held)
 
-    pub feeds-gone : s.frames ≤ frame → (r : Outcome Fed Stop) (log' : List ℕ) → r ≡ taken_with s s.ticket s.dirty 0
+    pub feeds-gone : (r : Outcome Fed Stop) (log' : List ℕ) → r ≡ taken_with s s.ticket s.dirty 0
         → log' ≡ with_slot log (slot_of s.slots s.next) bytes → Feeds s log home frames bytes r log' home frames
-    feeds-gone h r log' i l =
-        feeds-cleaned (takes-gone h) s.dirty
+    feeds-gone r log' i l =
+        feeds-cleaned takes-gone s.dirty
         (subst (λ (es : List DirtyPage). Holds (table_of s) frames es)
-        (sym (without-none page (dirty_of s frames) (not-dirty page s.frames frame frames s.dirty held h))) (sound-holds-as true s frames fits.is_sound))
-        (sym (not-freed page s.frames frame frames s.dirty held h)) r log' i l
+        (sym (without-none page (dirty_of s frames) (not-dirty page frames s.dirty held))) (sound-holds-as true s frames fits.is_sound))
+        (sym (not-freed page frames s.dirty held)) r log' i l
 
+  module _ (frame : ℕ) (held : held_in page 0 s.dirty ≡ in_frame frame) where
     -- the page is in a frame
     module _ (h : frame < s.frames) (entry : Dirty) (is : entry ≡ get_or s.dirty frame free) where
       own : is_of page (get_or s.dirty frame free) ≡ true
-      own = (in_frame_lem page s.frames frame frames s.dirty held h).0
+      own = (in_frame_lem page frame frames s.dirty held).0
 
       abbrev there : DirtyPage
       there = record { page = (get_or s.dirty frame free).page; first = (get_or s.dirty frame free).first; bytes = page_at frames frame }
 
       found : look_up page (dirty_of s frames) ≡ at there
-      found = (in_frame_lem page s.frames frame frames s.dirty held h).1
+      found = (in_frame_lem page frame frames s.dirty held).1
 
       parts : (eqb (get_or s.dirty frame free).first 0 ≡ false) × (page ≡ (get_or s.dirty frame free).page)
       parts =

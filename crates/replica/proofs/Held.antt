@@ -3,18 +3,16 @@
 use mathlib.Core.Path.{◌≡◌, refl, sym, ap, ◌∙◌}
 use mathlib.Core.Bool.{Bool, true, false, cond, not, ◌&&◌}
 use mathlib.Core.List.{List, [], ◌∷◌}
-use Prim.Native.Nat.{ℕ, zero, suc, ◌+◌, ◌≤◌, ◌<◌}
+use Prim.Native.Nat.{ℕ, zero, suc, ◌+◌}
 use native.Mathlib.Omega.{arith}
 use lib.Dec.{eqb}
 use lib.ListN.{get_or}
-use borrow.Author.Tests.{lt-ltb, le-ltb}
 use Rattle.promises.specs.declared.Dirty.{Dirty}
 use Rattle.promises.specs.Areas.{page_at}
 use Rattle.promises.specs.DirtyPages.{absent, at, look_up}
 use Rattle.promises.specs.Contents.{unless, dirty_from}
 use Rattle.promises.specs.Read.{at_home, in_frame, held_in}
 use Rattle.promises.specs.States.{free, is_of, freed}
-use Rattle.queueing.specs.Queueing.{held_at}
 
 no-frame : {X : Type 0} (f : ℕ) → in_frame f ≡ at_home → X
 no-frame f e = let z : ◌≡◌ {A = ℕ} 0 1 = cc in absurd (omega arith)
@@ -93,19 +91,19 @@ look-frame page frame frames (d ∷ ds) g e = go (eqb d.first 0) (eqb page d.pag
     go false true q p ih e = here q p (same-frame frame g e)
     go false false q p ih e = other q p (ih e)
 
--- ---- from the search over so many frames
-module _ (page count frame : ℕ) (frames : List ℕ) (ds : List Dirty) (e : held_in page 0 ds ≡ held_at count frame) where
-  pub not-dirty : count ≤ frame → look_up page (dirty_from frames 0 ds) ≡ absent
-  not-dirty h = look-home page 0 frames ds (e ∙ simp (le-ltb frame count h))
+-- ---- from the search over the frames
+module _ (page : ℕ) (frames : List ℕ) (ds : List Dirty) (e : held_in page 0 ds ≡ at_home) where
+  pub not-dirty : look_up page (dirty_from frames 0 ds) ≡ absent
+  not-dirty = look-home page 0 frames ds e
 
-  pub not-freed : count ≤ frame → freed page ds ≡ ds
-  not-freed h = free-home page 0 ds (e ∙ simp (le-ltb frame count h))
+  pub not-freed : freed page ds ≡ ds
+  not-freed = free-home page 0 ds e
 
-  pub in_frame_lem : frame < count → (is_of page (get_or ds frame free) ≡ true)
-      × (look_up page (dirty_from frames 0 ds) ≡ at (record { page = (get_or ds frame free).page; first = (get_or ds frame free).first; bytes = page_at frames frame }))
-  in_frame_lem h =
-      let r = look-frame page 0 frames ds frame (e ∙ simp (lt-ltb frame count h)) in
-      let b : r.behind ≡ frame = omega (arith, r.frame_is) in (
-        ap (λ (n : ℕ). is_of page (get_or ds n free)) (sym b) ∙ r.is_page,
-        r.found ∙ ap (λ (n : ℕ). at (record { page = (get_or ds n free).page; first = (get_or ds n free).first; bytes = page_at frames frame })) b,
-      )
+pub in_frame_lem : (page frame : ℕ) (frames : List ℕ) (ds : List Dirty) → held_in page 0 ds ≡ in_frame frame → (is_of page (get_or ds frame free) ≡ true)
+    × (look_up page (dirty_from frames 0 ds) ≡ at (record { page = (get_or ds frame free).page; first = (get_or ds frame free).first; bytes = page_at frames frame }))
+in_frame_lem page frame frames ds e =
+    let r = look-frame page 0 frames ds frame e in
+    let b : r.behind ≡ frame = omega (arith, r.frame_is) in (
+      ap (λ (n : ℕ). is_of page (get_or ds n free)) (sym b) ∙ r.is_page,
+      r.found ∙ ap (λ (n : ℕ). at (record { page = (get_or ds n free).page; first = (get_or ds n free).first; bytes = page_at frames frame })) b,
+    )

@@ -99,10 +99,9 @@ fn feed_clean(
     ensures { Feeds state log.old home.old frames.now bytes.now result log.new home.new frames.now }
 {
     let mut dirty = state.dirty;
-    let frame = queueing::finding::frame_of(state, page as u16);
-    if state.frames <= frame {
+    let Some(frame) = queueing::finding::frame_of(state, page as u16) else {
         return take(state, log, bytes, state.ticket, dirty, 0);
-    }
+    };
     let entry = dirty[frame];
     let choice = Choice { frame, entry };
     match next_store(state.cleaning, page) {

@@ -334,18 +334,21 @@ pub fn read<'a>(state: State, home: &'a [u8], frames: &'a [u8], page: usize) -> 
             answer: Err(refusal),
         };
     }
-    let frame = finding::frame_of(state, page as u16);
-    if frame < state.frames {
-        let start = frame * Block::PAGE;
-        return Page {
-            bytes: &frames[start..start + Block::PAGE],
-            answer: Ok(()),
-        };
-    }
-    let start = page * Block::PAGE;
-    Page {
-        bytes: &home[start..start + Block::PAGE],
-        answer: Ok(()),
+    match finding::frame_of(state, page as u16) {
+        Some(frame) => {
+            let start = frame * Block::PAGE;
+            Page {
+                bytes: &frames[start..start + Block::PAGE],
+                answer: Ok(()),
+            }
+        }
+        None => {
+            let start = page * Block::PAGE;
+            Page {
+                bytes: &home[start..start + Block::PAGE],
+                answer: Ok(()),
+            }
+        }
     }
 }
 

@@ -34,8 +34,8 @@ overflow_cast-page c =
     let h = page-fits a.state a.log.now a.home.now a.frames.now a.bytes.now a.page (block_in a.fed a.bytes.now) (kind_at a.bytes.now a.fed.kind a.page c.requires.0) c.requires.1 in
     omega arith
 
-pub frame_of-frame-requires : goal.frame_of-frame-requires
-frame_of-frame-requires c =
+pub frame_of-requires : goal.frame_of-requires
+frame_of-requires c =
     let a = c.args in
     readable-copy a.state (fits-at a.state a.log.now a.home.now a.frames.now a.bytes.now a.fed a.page c.requires.0 c.requires.1).is_sound
 
@@ -45,39 +45,39 @@ take-requires c =
     let x = block_in a.fed a.bytes.now in
     let k = kind_at a.bytes.now a.fed.kind a.page c.requires.0 in
     take-needs a.state a.log.now a.home.now a.frames.now a.bytes.now x
-    (takes-gone a.state a.log.now a.home.now a.frames.now a.bytes.now a.page x k c.requires.1 _ c.frame_of-frame.ensures.0 c.if-state-frame.true)
+    (takes-gone a.state a.log.now a.home.now a.frames.now a.bytes.now a.page x k c.requires.1 c.in_default.ensures.held)
 
-pub returns-then-state-frame : goal.returns-then-state-frame
-returns-then-state-frame c =
+pub returns-in_default : goal.returns-in_default
+returns-in_default c =
     let a = c.args in
     let x = block_in a.fed a.bytes.now in
     let k = kind_at a.bytes.now a.fed.kind a.page c.requires.0 in
-    feeds-gone a.state a.log.now a.home.now a.frames.now a.bytes.now a.page x k c.requires.1 _ c.frame_of-frame.ensures.0 c.if-state-frame.true
+    feeds-gone a.state a.log.now a.home.now a.frames.now a.bytes.now a.page x k c.requires.1 c.in_default.ensures.held
     _ _ c.take.ensures.0 c.take.ensures.1
 
 pub offset_bounds-dirty-frame : goal.offset_bounds-dirty-frame
 offset_bounds-dirty-frame c =
     let a = c.args in
     let h = (fits-at a.state a.log.now a.home.now a.frames.now a.bytes.now a.fed a.page c.requires.0 c.requires.1).frame_few in
-    omega arith
+    omega (arith, c.in-Some.ensures.below)
 
 pub bounds-dirty-frame : goal.bounds-dirty-frame
 bounds-dirty-frame c =
     let a = c.args in
     let h = (fits-at a.state a.log.now a.home.now a.frames.now a.bytes.now a.fed a.page c.requires.0 c.requires.1).frame_few in
-    omega arith
+    omega (arith, c.in-Some.ensures.below)
 
 pub offset_bounds-dirty-frame-in-Block : goal.offset_bounds-dirty-frame-in-Block
 offset_bounds-dirty-frame-in-Block c =
     let a = c.args in
     let h = (fits-at a.state a.log.now a.home.now a.frames.now a.bytes.now a.fed a.page c.requires.0 c.requires.1).frame_few in
-    omega arith
+    omega (arith, c.in-Some.ensures.below)
 
 pub bounds-dirty-frame-in-Block : goal.bounds-dirty-frame-in-Block
 bounds-dirty-frame-in-Block c =
     let a = c.args in
     let h = (fits-at a.state a.log.now a.home.now a.frames.now a.bytes.now a.fed a.page c.requires.0 c.requires.1).frame_few in
-    omega arith
+    omega (arith, c.in-Some.ensures.below)
 
 pub take-requires-in-Block : goal.take-requires-in-Block
 take-requires-in-Block c =
@@ -85,7 +85,7 @@ take-requires-in-Block c =
     let x = block_in a.fed a.bytes.now in
     let k = kind_at a.bytes.now a.fed.kind a.page c.requires.0 in
     take-needs a.state a.log.now a.home.now a.frames.now a.bytes.now x
-    (takes-third a.state a.log.now a.home.now a.frames.now a.bytes.now a.page x k c.requires.1 _ c.frame_of-frame.ensures.0 (omega arith)
+    (takes-third a.state a.log.now a.home.now a.frames.now a.bytes.now a.page x k c.requires.1 _ c.in-Some.ensures.held c.in-Some.ensures.below
     _ refl (sym c.next_store.ensures ∙ ap made_before c.in-Block.is))
 
 pub returns-in-Block : goal.returns-in-Block
@@ -93,7 +93,7 @@ returns-in-Block c =
     let a = c.args in
     let x = block_in a.fed a.bytes.now in
     let k = kind_at a.bytes.now a.fed.kind a.page c.requires.0 in
-    feeds-third a.state a.log.now a.home.now a.frames.now a.bytes.now a.page x k c.requires.1 _ c.frame_of-frame.ensures.0 (omega arith)
+    feeds-third a.state a.log.now a.home.now a.frames.now a.bytes.now a.page x k c.requires.1 _ c.in-Some.ensures.held c.in-Some.ensures.below
     _ refl (sym c.next_store.ensures ∙ ap made_before c.in-Block.is) (search (rules, length-mapped)) _ _ c.take-in-Block.ensures.0 c.take-in-Block.ensures.1
 
 pub store_second-requires : goal.store_second-requires
@@ -101,14 +101,14 @@ store_second-requires c =
     let a = c.args in
     let x = block_in a.fed a.bytes.now in
     let k = kind_at a.bytes.now a.fed.kind a.page c.requires.0 in
-    fitting a.state a.log.now a.home.now a.frames.now a.bytes.now a.page x k c.requires.1 _ c.frame_of-frame.ensures.0 (omega arith) _ refl
+    fitting a.state a.log.now a.home.now a.frames.now a.bytes.now a.page x k c.requires.1 _ c.in-Some.ensures.held c.in-Some.ensures.below _ refl
 
 pub returns-in-SecondHalf : goal.returns-in-SecondHalf
 returns-in-SecondHalf c =
     let a = c.args in
     let x = block_in a.fed a.bytes.now in
     let k = kind_at a.bytes.now a.fed.kind a.page c.requires.0 in
-    feeds-half-two a.state a.log.now a.home.now a.frames.now a.bytes.now a.page x k c.requires.1 _ c.frame_of-frame.ensures.0 (omega arith)
+    feeds-half-two a.state a.log.now a.home.now a.frames.now a.bytes.now a.page x k c.requires.1 _ c.in-Some.ensures.held c.in-Some.ensures.below
     _ refl (sym c.next_store.ensures ∙ ap made_before c.in-SecondHalf.is) _ _ refl c.with_cleaning.ensures c.store_second.ensures
 
 pub store_first-requires : goal.store_first-requires
@@ -116,7 +116,7 @@ store_first-requires c =
     let a = c.args in
     let x = block_in a.fed a.bytes.now in
     let k = kind_at a.bytes.now a.fed.kind a.page c.requires.0 in
-    fitting a.state a.log.now a.home.now a.frames.now a.bytes.now a.page x k c.requires.1 _ c.frame_of-frame.ensures.0 (omega arith) _ refl
+    fitting a.state a.log.now a.home.now a.frames.now a.bytes.now a.page x k c.requires.1 _ c.in-Some.ensures.held c.in-Some.ensures.below _ refl
 
 pub returns-in-FirstHalf : goal.returns-in-FirstHalf
 returns-in-FirstHalf c =
@@ -124,5 +124,5 @@ returns-in-FirstHalf c =
     let a = c.args in
     let x = block_in a.fed a.bytes.now in
     let k = kind_at a.bytes.now a.fed.kind a.page c.requires.0 in
-    feeds-half-one a.state a.log.now a.home.now a.frames.now a.bytes.now a.page x k c.requires.1 _ c.frame_of-frame.ensures.0 (omega arith)
+    feeds-half-one a.state a.log.now a.home.now a.frames.now a.bytes.now a.page x k c.requires.1 _ c.in-Some.ensures.held c.in-Some.ensures.below
     _ refl (λ e. omega (arith, none, e)) (λ e. omega (arith, none, e)) _ _ refl c.with_cleaning-in-FirstHalf.ensures c.store_first.ensures

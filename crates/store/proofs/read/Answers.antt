@@ -15,35 +15,33 @@ returns-in-Err c =
 pub overflow_cast-page : goal.overflow_cast-page
 overflow_cast-page c = let k = (read-passed _ _ _ _ (sym c.in_default.ensures)) in omega arith
 
-pub frame_of-frame-requires : goal.frame_of-frame-requires
-frame_of-frame-requires c = (read-passed _ _ _ _ (sym c.in_default.ensures)).sounds
+pub frame_of-requires : goal.frame_of-requires
+frame_of-requires c = (read-passed _ _ _ _ (sym c.in_default.ensures)).sounds
 
 pub overflow_mul-start : goal.overflow_mul-start
-overflow_mul-start c = let k = (read-passed _ _ _ _ (sym c.in_default.ensures)) in omega arith
+overflow_mul-start c = let k = (read-passed _ _ _ _ (sym c.in_default.ensures)) in omega (arith, c.in-Some.ensures.below)
 
 pub overflow_add-result : goal.overflow_add-result
-overflow_add-result c = let k = (read-passed _ _ _ _ (sym c.in_default.ensures)) in omega arith
+overflow_add-result c = let k = (read-passed _ _ _ _ (sym c.in_default.ensures)) in omega (arith, c.in-Some.ensures.below)
 
-pub slice_bounds-result-end-then-frame-state : goal.slice_bounds-result-end-then-frame-state
-slice_bounds-result-end-then-frame-state c = let k = (read-passed _ _ _ _ (sym c.in_default.ensures)) in omega arith
+pub slice_bounds-result-end-in-Some : goal.slice_bounds-result-end-in-Some
+slice_bounds-result-end-in-Some c = let k = (read-passed _ _ _ _ (sym c.in_default.ensures)) in omega (arith, c.in-Some.ensures.below)
 
-pub returns-then-frame-state : goal.returns-then-frame-state
-returns-then-frame-state c =
+pub returns-in-Some : goal.returns-in-Some
+returns-in-Some c =
     let args = c.args in
-    let found = c.frame_of-frame in
-    read-frame args.state args.home args.frames args.page _ c.in_default.ensures _ found.result found.ensures.0 c.if-frame-state.true refl refl refl
+    read-frame args.state args.home args.frames args.page _ c.in_default.ensures _ c.in-Some.frame c.in-Some.ensures.held refl refl refl
 
-pub overflow_mul-start-2 : goal.overflow_mul-start-2
-overflow_mul-start-2 c = let k = (read-passed _ _ _ _ (sym c.in_default.ensures)) in omega arith
+pub overflow_mul-start-in-None : goal.overflow_mul-start-in-None
+overflow_mul-start-in-None c = let k = (read-passed _ _ _ _ (sym c.in_default.ensures)) in omega arith
 
-pub overflow_add-result-2 : goal.overflow_add-result-2
-overflow_add-result-2 c = let k = (read-passed _ _ _ _ (sym c.in_default.ensures)) in omega arith
+pub overflow_add-result-in-None : goal.overflow_add-result-in-None
+overflow_add-result-in-None c = let k = (read-passed _ _ _ _ (sym c.in_default.ensures)) in omega arith
 
-pub slice_bounds-result-end-2 : goal.slice_bounds-result-end-2
-slice_bounds-result-end-2 c = let k = (read-passed _ _ _ _ (sym c.in_default.ensures)) in omega arith
+pub slice_bounds-result-end-in-None : goal.slice_bounds-result-end-in-None
+slice_bounds-result-end-in-None c = let k = (read-passed _ _ _ _ (sym c.in_default.ensures)) in omega arith
 
-pub returns : goal.returns
-returns c =
+pub returns-in-None : goal.returns-in-None
+returns-in-None c =
     let args = c.args in
-    let found = c.frame_of-frame in
-    read-home args.state args.home args.frames args.page _ c.in_default.ensures _ found.result found.ensures.0 c.if-frame-state.false refl refl refl
+    read-home args.state args.home args.frames args.page _ c.in_default.ensures _ c.in-None.ensures.held refl refl refl

@@ -11,15 +11,15 @@ use borrow.Author.Rules.{rules}
 use native.Mathlib.Omega.{arith}
 use Rattle.queueing.proofs.finding.frame_of.Goals as goal
 
-pub returns-then-entry-page : goal.returns-then-entry-page
-returns-then-entry-page c =
+pub returns-then-entry-page-clause-held : goal.returns-then-entry-page-clause-held
+returns-then-entry-page-clause-held c =
     let s = c.args.state in
     let at = c.loop-frame in
     let few = frames_most s c.requires in
     let long : length s.dirty ≡ 32 = search (rules, length-mapped) in
     let cut = length-take-le s.frames s.dirty (omega arith) in
     let same = get_or-take s.frames s.dirty at.frame free (omega arith) in
-    (at.invariant ∙ held-here c.args.page s.dirty at.frame s.frames (omega arith) (omega arith) (rw same at c.if-entry-page.true), omega arith)
+    at.invariant ∙ held-here c.args.page s.dirty at.frame (omega arith) (rw same at c.if-entry-page.true)
 
 pub loop-frame-preserved : goal.loop-frame-preserved
 loop-frame-preserved c =
@@ -31,8 +31,8 @@ loop-frame-preserved c =
     let same = get_or-take s.frames s.dirty at.frame free (omega arith) in
     at.invariant ∙ held-later c.args.page s.dirty at.frame (omega arith) (rw same at c.if-entry-page.false)
 
-pub returns : goal.returns
-returns c =
+pub returns-clause-held : goal.returns-clause-held
+returns-clause-held c =
     let s = c.args.state in
     let at = c.loop-frame in
     let few = frames_most s c.requires in
@@ -40,4 +40,4 @@ returns c =
     let long : length s.dirty ≡ 32 = search (rules, length-mapped) in
     let cut = length-take-le s.frames s.dirty (omega arith) in
     let all : at.frame ≡ s.frames = omega arith in
-    (rw all at (at.invariant ∙ held-home c.args.page s.frames at.frame s.dirty all f.frames_below), omega arith)
+    at.invariant ∙ held-home c.args.page s.frames at.frame s.dirty all f.frames_below
