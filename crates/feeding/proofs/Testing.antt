@@ -1,12 +1,12 @@
 -- The tests of a fed block as the code makes them: over the numbers of its tests, slot by slot, and without the pages' bytes.
 -- Assumes nothing.
 use mathlib.Core.Path.{◌≡◌, refl, sym, ap, ◌∙◌}
-use mathlib.Core.Bool.{Bool, true, false, ◌&&◌}
+use mathlib.Core.Bool.{Bool, true, false}
 use mathlib.Core.List.{List, [], ◌∷◌, ◌++◌, append_assoc}
 use Prim.Native.Nat.{ℕ, suc, ◌+◌, ◌-◌, ◌^◌, ◌≤◌, ◌<◌}
 use native.Mathlib.Omega.{arith}
 use native.Mathlib.Nat.{mod-lt}
-use lib.Dec.{eqb, leb}
+use lib.Dec.{eqb}
 use lib.ListN.{length, get_or, drop, drop_of_length-le}
 use lib.Seq.{drop-cons}
 use native.Mathlib.Numerals.{add-one}
@@ -26,16 +26,11 @@ use Rattle.promises.specs.Feed.{is_update, lacking}
 use Rattle.promises.proofs.Slots.{get-slot}
 use Rattle.promises.proofs.Soundness.{sound-as-of}
 use Rattle.outline.specs.declared.Mark.{Mark}
-use Rattle.outline.specs.Marks.{marks_of, pages_of, earliest}
+use Rattle.outline.specs.Marks.{marks_of, pages_of}
 use Rattle.recovery.specs.Log.{header_of, bytes_of, change_in, update_of, updates_from}
 use Rattle.recovery.proofs.Groups.{group-more}
 use Rattle.outline.proofs.Alike.{pages-snoc}
 use Rattle.feeding.specs.Tests.{page_of, mark_of}
-
--- keep-from and H + D, from the smallest first groups
-pub fits-law : (k keep low own half next count N : ℕ) (marks : List Mark) → keep ≡ earliest own marks → low ≡ earliest half marks → length marks ≡ count
-    → (eqb k keep && leb (next + 1 - low + count) N) ≡ (eqb k (earliest own marks) && leb (next + 1 - earliest half marks + length marks) N)
-fits-law k keep low own half next count N marks e f l = rw (e, f, l) refl
 
 -- ---- the half group in the log, slot by slot
 

@@ -1,7 +1,7 @@
 -- Calls of one kind until one is refused, made by a loop: what it knows at each turn.
 -- Assumes nothing.
 use mathlib.Core.Path.{◌≡◌, refl, sym, ap, ◌∙◌, subst}
-use mathlib.Core.Logic.{◌⊎◌, inl, inr, ⊎_elim}
+use mathlib.Core.Logic.{◌⊎◌, inr, ⊎_elim}
 use mathlib.Core.Bool.{true}
 use Prim.Native.Nat.{ℕ, suc, ◌+◌, ◌≤◌, ◌<◌}
 use mathlib.Core.List.{List}
@@ -52,9 +52,6 @@ pub record Turns (call : Call) (left : State → ℕ) (calls : ℕ) (w₀ w : Wo
   -- what the calls to come make, all of them make
   pub on : (n k : ℕ) (w' : World) → Until promised call n w k w' → Until promised call (calls + n) w₀ k w'
   pub few : (calls ≡ 0) ⊎ (calls + left w.state ≤ 1024)
-
-pub turns-none : (call : Call) (left : State → ℕ) (w : World) → Turns call left 0 w w
-turns-none call left w = record { on = λ n k w' c. let m : n ≡ 0 + n = omega arith in subst (λ (i : ℕ). Until promised call i w k w') m c; few = inl refl }
 
 pub few-calls : (call : Call) (left : State → ℕ) (calls : ℕ) (w₀ w : World) → Turns call left calls w₀ w → calls ≤ 1024
 few-calls call left calls w₀ w g = ⊎_elim (λ (z : calls ≡ 0). omega arith) (λ (h : calls + left w.state ≤ 1024). omega arith) g.few
