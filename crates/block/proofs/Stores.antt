@@ -1,10 +1,11 @@
 -- Numbers stored and read byte by byte, the header number by number, a block built up from zeros, and its check copied.
 -- Assumes nothing.
 use Rattle.std.specs.Int.{w64, from_le_bytes}
-use Rattle.std.proofs.Common.{◌≡◌, ℕ, zero, suc, ◌+◌, ◌-◌, ◌*◌, ◌/◌, ◌%◌, ◌<◌, ◌≤◌, List, [], ◌∷◌, ◌++◌, length, get_or, drop, set, replicate, sym, refl, ap, ◌∙◌, ap₂, append_assoc, append-nil, add-one, arith, length-append, drop_of_length-le, take_all, drop-cons, take_at, drop_at}
+use Rattle.std.proofs.Common.{◌≡◌, ℕ, zero, suc, ◌+◌, ◌-◌, ◌*◌, ◌/◌, ◌%◌, ◌^◌, ◌<◌, ◌≤◌, List, [], ◌∷◌, ◌++◌, length, get_or, drop, set, replicate, sym, refl, ap, ◌∙◌, ap₂, append_assoc, append-nil, add-one, arith, length-append, drop_of_length-le, take_all, drop-cons, take_at, drop_at}
 use lib.ListN.{length-replicate, replicate-append-replicate}
 use lib.Seq.{sets, sets-eq}
 use Rattle.area.specs.Part.{part, splice}
+use Rattle.area.proofs.Parts.{length_part, part-append}
 use Rattle.block.specs.Sizes.{block_size, new_bytes_most, header_size, body_size}
 use Rattle.block.specs.Number.{to_bytes, from_bytes}
 use Rattle.block.specs.Check.{check_a, check_b, modulus}
@@ -14,6 +15,7 @@ use Rattle.block.specs.Kind.{fields_of}
 use Rattle.block.specs.declared.Block.{Block}
 use Rattle.block.specs.declared.Fields.{Fields}
 use Rattle.block.proofs.Lengths.{length-header, length-to_bytes, length-body}
+use Rattle.block.proofs.Numbers.{from_bytes-append}
 
 -- ---- a number stored
 
@@ -60,6 +62,15 @@ long-law list place h =
       drop-cons list (suc (suc (suc (suc (suc (suc (suc place))))))) 0 (omega arith),
     )
     (omega arith)
+
+-- a number of two parts, the lower first
+pub number_at-append : (list : List ℕ) (place low high : ℕ) → place + low ≤ length list
+    → number_at list place (low + high) ≡ number_at list place low + 256 ^ low * number_at list (place + low) high
+unfolding number_at
+number_at-append list place low high h =
+    ap from_bytes (sym (part-append list place low high))
+    ∙ from_bytes-append (part list place low) (part list (place + low) high)
+    ∙ ap (λ (n : ℕ). from_bytes (part list place low) + 256 ^ n * from_bytes (part list (place + low) high)) (length_part list place low h)
 
 -- ---- the header
 

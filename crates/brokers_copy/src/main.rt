@@ -3,6 +3,7 @@
 #![tactic(auto)]
 
 use block::Block;
+use output::Output;
 use promises::State;
 use std::io;
 
@@ -192,7 +193,7 @@ fn run(rt: &impl Print, desk: &mut Desk, broker: &mut Broker) -> io::Result<()> 
     )
 }
 
-fn main(rt: HostRuntime) -> io::Result<()> {
+fn main() {
     let mut log = [0; LOG];
     let _ = store::format(&mut log);
     let mut desk = Desk {
@@ -212,5 +213,5 @@ fn main(rt: HostRuntime) -> io::Result<()> {
     };
     desk.open();
     broker.open();
-    run(&rt, &mut desk, &mut broker)
+    let _ = run(&Output, &mut desk, &mut broker);
 }

@@ -21,7 +21,7 @@ use Rattle.promises.specs.Sound.{member, all_below, dirty_numbers}
 use Rattle.promises.specs.CleanStep.{NoLater}
 use Rattle.promises.proofs.Soundness.{Sound}
 use Rattle.promises.proofs.Table.{look_up-set}
-use Rattle.soundness.proofs.Scans.{firsts_more, firsts_same}
+use Rattle.soundness.proofs.Scans.{firsts_more, firsts_same, firsts-end}
 use Rattle.promises.specs.States.{free, is_of}
 use Rattle.table.proofs.Entries.{used-below, own-apart, first_below}
 use Rattle.table.proofs.Scans.{smallest-more, smallest-same}
@@ -37,6 +37,10 @@ rank-used : (entry : Dirty) → (entry.first ≡ 0 → ⊥) → entry.page < 655
 rank-used entry n small = simp (ne_eqb _ _ n, ne_eqb 65536 entry.page (λ e. omega arith))
 
 -- ---- searches that end with the last dirty page
+
+-- while pages are left among 32 entries, an entry is
+pub entry-left : (ds : List Dirty) (left i : ℕ) → length ds ≡ 32 → left ≡ length (first_groups (drop i ds)) → 0 < left → i < 32
+entry-left ds left i long is some = either i 32 (λ l. l) (λ l. absurd (omega (arith, ap length (firsts-end ds i (omega arith)))))
 
 -- the count of those that are left, past an entry in use or free
 module _ (ds : List Dirty) (left i : ℕ) (e : left ≡ length (first_groups (drop i ds))) (h : i < length ds) where

@@ -5,6 +5,8 @@ use Rattle.promises.specs.declared.State.{State}
 use Rattle.promises.specs.declared.Dirty.{Dirty}
 use Rattle.promises.specs.declared.Cleaning.{Cleaning}
 use Rattle.promises.specs.declared.Cleaning.TheVariants.{Idle, First, Second, Third}
+use Rattle.cleaning.specs.declared.Next.{Next}
+use Rattle.cleaning.specs.declared.Next.TheVariants.{FirstHalf, SecondHalf, Block}
 use Rattle.promises.specs.Blocks.{clean, stored}
 use Rattle.promises.specs.Sums.{first_groups, smallest}
 use Rattle.block.specs.Sizes.{page_size}
@@ -50,6 +52,12 @@ stores_made Idle = 0
 stores_made (First page) = 0
 stores_made (Second page) = 1
 stores_made (Third page) = 2
+
+-- how many stores of a cleaning's page come before each
+abbrev pub made_before : Next → ℕ
+made_before FirstHalf = 0
+made_before SecondHalf = 1
+made_before Block = 2
 
 -- what a half's store leans on: the page at home and the frame lie within the areas
 pub record Fitting (home frames page frame : ℕ) : Type 0 where

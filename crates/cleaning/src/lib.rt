@@ -15,7 +15,7 @@ ghost use Rattle.soundness.specs.Verdicts.{Judges};
 ghost use Rattle.promises.specs.CleanStep.{third_refusal, clean_refusal};
 ghost use Rattle.promises.specs.declared.Cleaning.TheVariants.{Third};
 ghost use Rattle.promises.specs.States.{free};
-ghost use Rattle.cleaning.specs.Cleans.{entry_at, rank_in, named_in, Chosen, Fitting, cleaned_log};
+ghost use Rattle.cleaning.specs.Cleans.{entry_at, rank_in, named_in, stores_made, made_before, Chosen, Fitting, cleaned_log};
 
 use block::Block;
 use promises::{Cleaning, Dirty, Refusal, State};
@@ -24,7 +24,8 @@ use soundness::sums::Sums;
 // What the store of a clean block is refused with: a half-stored group holds it back, or the sequences are used up.
 pub fn block_refusal(state: State, sums: Sums) -> Result<(), Refusal>
     requires { (sound state ≡ true) × Summed state sums × Small state sums }
-    ensures { refusal_in result ≡ third_refusal state (Third 0) }
+    ensures refusal { refusal_in result ≡ third_refusal state (Third 0) }
+    ensures most { refusal_in result ≤ 11 }
 {
     if state.stored != 0 {
         return Err(Refusal::HeldBack);
@@ -39,7 +40,8 @@ pub fn block_refusal(state: State, sums: Sums) -> Result<(), Refusal>
 // What a third store is refused with; no other store is refused here.
 pub fn third_refusal(state: State, sums: Sums) -> Result<(), Refusal>
     requires { (sound state ≡ true) × Summed state sums × Small state sums }
-    ensures { refusal_in result ≡ third_refusal state state.cleaning }
+    ensures refusal { refusal_in result ≡ third_refusal state state.cleaning }
+    ensures most { refusal_in result ≤ 11 }
 {
     match state.cleaning {
         Cleaning::Third(_) => block_refusal(state, sums),
@@ -58,6 +60,7 @@ pub fn clean_refusal(
 ) -> Result<Sums, Refusal>
     requires { Judges state verdict }
     ensures refusal { refusal_in result ≡ clean_refusal state log home frames }
+    ensures most { refusal_in result ≤ 11 }
     ensures sums { IfOk result (Summed state) }
 {
     let sums = verdict.ok_or(Refusal::NotSound)?;
@@ -72,7 +75,7 @@ pub fn clean_refusal(
 }
 
 // An entry's place in the order of cleaning: the named page first, then by first group and by page; a free frame comes last.
-fn rank(entry: Dirty, named: Option<u16>) -> u64
+pub fn rank(entry: Dirty, named: Option<u16>) -> u64
     requires { entry.first < 2 ^ 48 }
     ensures { result ≡ rank_in (unwrap_or named 65536) entry }
 {
@@ -130,6 +133,25 @@ pub fn frame_to_clean(state: State, count: usize) -> Choice
     Choice {
         frame: best,
         entry: dirty[best],
+    }
+}
+
+// The store that a cleaning makes next: a half of its page at home, or its block in the log.
+#[derive(Clone, Copy)]
+pub enum Next {
+    FirstHalf,
+    SecondHalf,
+    Block,
+}
+
+// The store that is next, after those that the cleaning has made.
+pub fn next_store(cleaning: Cleaning) -> Next
+    ensures { made_before result ≡ stores_made cleaning }
+{
+    match cleaning {
+        Cleaning::Idle | Cleaning::First(_) => Next::FirstHalf,
+        Cleaning::Second(_) => Next::SecondHalf,
+        Cleaning::Third(_) => Next::Block,
     }
 }
 

@@ -9,7 +9,6 @@ use lib.ListN.{length}
 use borrow.Author.Tests.{ne_eqb, lt-ltb, le-ltb}
 use Rattle.block.specs.declared.Block.{Block}
 use Rattle.block.specs.declared.Judged.{Judged}
-use Rattle.block.specs.declared.Judged.TheVariants.{Unused, Damaged, Valid}
 use Rattle.block.specs.declared.Kind as format
 use Rattle.block.specs.Legal.{legal, slot_of}
 use Rattle.block.specs.Slot.{judged, block_at}
@@ -96,10 +95,3 @@ module _ (s : State) (log home frames bytes : List ℕ) where
       → feeding s log home frames bytes ≡ by_sequence s (page_at home) frames (slots_of s.slots s.pages log) (slot_in j bytes)
   unfolding feeding
   judged-as e f j g = rw (e, f, g) refl
-
--- bytes that are no valid block break the layout
-pub bad : (s : State) (home : ℕ → List ℕ) (frames : List ℕ) (slots : List Slot) (j : Judged) (bytes : List ℕ) → ((block : Block) → j ≡ Valid block → ⊥)
-    → by_sequence s home frames slots (slot_in j bytes) ≡ stops 13 0
-bad s home frames slots Unused bytes other = refl
-bad s home frames slots Damaged bytes other = refl
-bad s home frames slots (Valid block) bytes other = absurd (other block refl)

@@ -14,13 +14,11 @@ ghost use Rattle.promises.specs.Contents.{dirty_from};
 ghost use Rattle.promises.specs.Sound.{copy_sound};
 ghost use Rattle.promises.specs.Feed.{has_index, is_update, lacking as lacking_from, lacking_at, feeding};
 ghost use Rattle.recovery.specs.Log.{updates_from};
-ghost use Rattle.arrayvec.specs.ArrayVec.{array_vec_len};
 ghost use Rattle.outline.specs.Marks.{marks_of, pages_of, earliest as earliest_of};
 ghost use Rattle.feeding.specs.Tests.{page_of, start_of, lacking_in, Lacks, Tests, of_valid, Decides};
 
-use arrayvec::ArrayVec;
 use block::{Block, Judged, Kind};
-use outline::{Group, Mark, Marks};
+use outline::{Group, Mark, Marks, Pages};
 use promises::{Dirty, Refusal, State, Stop};
 
 // What is decided of a fed block that is not refused: the copy had it already; or it passed every test.
@@ -72,7 +70,7 @@ fn has_update(log: &[u8], pages: usize, sequence: u64, index: usize) -> bool
 }
 
 // The lowest update that the log lacks of a half group of so many that starts at a sequence, if it lacks one.
-fn lacking(log: &[u8], pages: usize, start: u64, count: usize) -> Option<u64>
+pub fn lacking(log: &[u8], pages: usize, start: u64, count: usize) -> Option<u64>
     requires { (length log.now ≡ slots_in (length log.now) * block_size) × (1 ≤ slots_in (length log.now)) × (start + count ≤ sequence_end) }
     ensures { Lacks result start (lacking_from (slots_in (length log.now)) (slots_of (slots_in (length log.now)) pages log.now) count start 1) }
 {
@@ -88,7 +86,7 @@ fn lacking(log: &[u8], pages: usize, start: u64, count: usize) -> Option<u64>
 // The dirty pages of a state, without their bytes.
 fn marks_of(dirty: &[Dirty; 32]) -> Marks
     ensures is { (frames : List ℕ) → result.items ≡ marks_of (dirty_from frames 0 dirty.now) }
-    ensures few { array_vec_len result ≤ 32 }
+    ensures few { length result.items ≤ 32 }
 {
     let mut marks = Marks::new();
     for entry in dirty {
@@ -117,7 +115,7 @@ fn group_of(log: &[u8], start: u64, count: usize) -> Group
     requires { (block_size ≤ length log.now) × (count ≤ group_most) × (start + count ≤ sequence_end) }
     ensures { (result.pages.items ≡ pages_of (updates_from log.now start count)) × (result.start ≡ start) }
 {
-    let mut pages = ArrayVec::new();
+    let mut pages = Pages::new();
     for i in 0..count {
         let block = recovery::header(log, start + i as u64);
         pages.push(page_of(block.kind));
@@ -150,7 +148,7 @@ fn own_start(state: State, index: usize) -> u64
 // Whether keep-from is the one that the layout's rule gives over the pages that are dirty once the block is stored, and H + D is then at most N.
 // `own`: what the block counts beside these pages; `half`: the half group's start once it is stored, next + 1 where there is none.
 fn fits(state: State, keep_from: u64, marks: &Marks, own: u64, half: u64) -> bool
-    requires { (array_vec_len marks.now ≤ 48) × (half ≤ state.next + 1) × (state.next ≤ sequence_end) }
+    requires { (length marks.now.items ≤ 48) × (half ≤ state.next + 1) × (state.next ≤ sequence_end) }
     ensures { result ≡ eqb keep_from (earliest_of own marks.now.items) && leb (state.next + 1 - earliest_of half marks.now.items + length marks.now.items) state.slots }
 {
     let keep = outline::earliest(marks, own);
@@ -304,6 +302,7 @@ pub fn decide(
     }
     match judge_fed(bytes, state.slots, state.pages) {
         Judged::Valid(block) => decide_valid(state, log, block),
-        _ => Err(nowhere(Refusal::BadBlock)),
+        Judged::Damaged => Err(nowhere(Refusal::BadBlock)),
+        Judged::Unused => Err(nowhere(Refusal::BadBlock)),
     }
 }

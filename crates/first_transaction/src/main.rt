@@ -3,6 +3,7 @@
 #![tactic(auto)]
 
 use block::Block;
+use output::Output;
 use promises::State;
 use std::io;
 
@@ -47,9 +48,14 @@ fn cut_after(rt: &impl Print, blocks: u64) -> io::Result<()> {
     println!(rt; "")
 }
 
-fn main(rt: HostRuntime) -> io::Result<()> {
+// Cuts the power after none, one, two and all of the blocks.
+fn cut_everywhere(rt: &impl Print) -> io::Result<()> {
     for blocks in 0..=3 {
-        cut_after(&rt, blocks)?;
+        cut_after(rt, blocks)?;
     }
     Ok(())
+}
+
+fn main() {
+    let _ = cut_everywhere(&Output);
 }

@@ -1,14 +1,26 @@
--- Lines added one behind the other, and the text that they make.
+-- Words, numbers and lines added one behind the other, and the text that they make.
 -- Assumes nothing.
-use mathlib.Core.Path.{◌≡◌, refl, sym, ap, ◌∙◌}
+use mathlib.Core.Path.{◌≡◌, refl, sym, ap, subst, ◌∙◌}
 use mathlib.Core.List.{List, [], ◌++◌, append_assoc}
-use Prim.Native.Nat.{ℕ, ◌+◌, ◌≤◌}
+use Prim.Native.Nat.{ℕ, ◌+◌, ◌^◌, ◌≤◌, ◌<◌}
 use native.Mathlib.Omega.{arith}
 use lib.ListN.{length, take, drop, length-append, length-take, length-drop, take-append-drop}
 use lib.Seq.{drop-append-le}
 use Rattle.area.specs.Part.{part, splice}
-use Rattle.area.proofs.Parts.{length_part, length-splice, splice-splice}
-use Rattle.lines.specs.Text.{Adds, Shows}
+use Rattle.area.proofs.Parts.{part-all, length_part, length-splice, splice-splice}
+use Rattle.std.specs.Fmt as kit
+use Rattle.std.proofs.lemmas.Fmt.{length-decimal-le}
+use Rattle.lines.specs.Text.{decimal, Adds, Shows}
+use Rattle.lines.proofs.Decimal.{spelled}
+
+-- a word copied to its place is added there
+pub adds-copied : (area word area' : List ℕ) (at : ℕ) → at + length word ≤ length area
+    → area' ≡ splice area at (length word) (part word 0 (length word)) → Adds area at word area' (at + length word)
+adds-copied area word area' at fits e = record {
+  end_is = refl;
+  within = fits;
+  area_is = e ∙ ap (splice area at (length word)) (part-all word (length word) (omega arith));
+}
 
 -- no text yet
 pub adds-nothing : (area : List ℕ) → Adds area 0 [] area 0
@@ -71,3 +83,15 @@ adds-lent area at count text part' area' end fits s e =
           ∙ ap (splice area at count) (s.area_is ∙ ap (λ (n : ℕ). text ++ drop n (part area at count)) s.end_is)
           ∙ text_in-part area at count text fits (omega (arith, s.end_is));
     }
+
+-- the digits of a number, as the kit wrote them, are added
+pub adds-number : (area : List ℕ) (at : ℕ) (digits area' : List ℕ) (end number : ℕ) → number < 2 ^ 64 → digits ≡ kit.decimal number
+    → Adds area at digits area' end → Adds area at (decimal number) area' end × (end ≤ at + 20)
+adds-number area at digits area' end number small e a = (
+  subst (λ (l : List ℕ). Adds area at l area' end) (e ∙ spelled 19 number (omega arith) small) a,
+  omega (arith, length-decimal-le 20 number (omega arith) (omega arith) small, ap length e, a.end_is),
+)
+
+-- the text that an enum's variant stands for
+pub adds-as : {A : Type 0} (text : A → List ℕ) (area : List ℕ) (at : ℕ) (x y : A) (area' : List ℕ) (end : ℕ) → x ≡ y → Adds area at (text y) area' end → Adds area at (text x) area' end
+adds-as text area at x y area' end e a = subst (λ z. Adds area at (text z) area' end) (sym e) a

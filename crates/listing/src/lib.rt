@@ -58,7 +58,7 @@ fn walk_blocks(log: &[u8], first: u64, last: u64, ticket: u64) -> Result<Course,
 {
     let mut course = outline::start(first, ticket);
     for s in first..=last {
-        course = outline::turn(course, recovery::header(log, s))?;
+        course = outline::turn(Ok(course), recovery::header(log, s))?;
     }
     Ok(course)
 }
@@ -93,7 +93,7 @@ fn examine_slots(log: &[u8], sequences: &mut [u64]) -> Result<Examined, Stop>
     }
     let first = recovery::header(log, keep);
     let walked = walk_blocks(log, keep, newest, first.ticket)?;
-    let course = outline::last_test(walked, slots)?;
+    let course = outline::last_test(Ok(walked), slots)?;
     Ok(Examined {
         newest,
         keep,

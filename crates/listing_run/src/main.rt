@@ -5,6 +5,7 @@ ghost use Rattle.std.specs.Prelude.{◌≡◌, ◌+◌, ◌≤◌, length};
 ghost use Rattle.block.specs.Sizes.{block_size, new_bytes_most, group_most};
 
 use block::Block;
+use output::Output;
 use std::io;
 
 // Stores a block in its slot of a log.
@@ -169,13 +170,18 @@ fn many(rt: &impl Print) -> io::Result<()> {
     Ok(())
 }
 
-fn main(rt: HostRuntime) -> io::Result<()> {
-    small(&rt)?;
-    wrapped(&rt)?;
-    damaged(&rt)?;
-    damaged_ends(&rt)?;
-    last_end(&rt)?;
-    disordered(&rt)?;
-    crowded(&rt)?;
-    many(&rt)
+// Every line, in order.
+fn all_lines(rt: &impl Print) -> io::Result<()> {
+    small(rt)?;
+    wrapped(rt)?;
+    damaged(rt)?;
+    damaged_ends(rt)?;
+    last_end(rt)?;
+    disordered(rt)?;
+    crowded(rt)?;
+    many(rt)
+}
+
+fn main() {
+    let _ = all_lines(&Output);
 }

@@ -1,13 +1,15 @@
 -- The oldest group applied to the frames, update by update, and what its commit leaves.
 -- Assumes nothing.
 use mathlib.Core.Path.{◌≡◌, refl, sym, ap, ◌∙◌, subst}
-use mathlib.Core.Bool.{Bool, true, false, not}
+use mathlib.Core.Bool.{Bool, true, false, not, ◌&&◌}
 use mathlib.Core.List.{List, ◌∷◌, map}
 use Prim.Native.Nat.{ℕ, ◌+◌, ◌-◌, ◌*◌, ◌≤◌, ◌<◌}
 use native.Mathlib.Omega.{arith}
+use lib.Dec.{ltb}
 use lib.ListN.{length, take, drop, get_or, length-take, length-map, get_or-map}
 use lib.Seq.{get_or-take, length-take-le}
-use Rattle.area.proofs.Laws.{never_both}
+use borrow.Author.Tests.{ltb-true}
+use Rattle.area.proofs.Laws.{and_both, never_both}
 use Rattle.area.proofs.Parts.{from-to}
 use Rattle.promises.specs.declared.State.{State}
 use Rattle.promises.specs.declared.Staged.{Staged}
@@ -34,6 +36,10 @@ pub staged-applied : (t r : Table) (home frames frames' staging : List ℕ) (x :
 staged-applied t r home frames frames' staging x group at long page offset a l p o =
     subst (λ (u : Update). Applies t home frames u group r frames')
     (ap (λ (bytes : List ℕ). record { page = page; offset = offset; bytes = bytes }) (from-to staging at long) ∙ rw (a, l, p, o))
+
+-- a group goes on while every page found a frame and an update is left
+pub goes_on_lem : (fits : Bool) (left : ℕ) → (fits && ltb 0 left) ≡ true → (fits ≡ true) × (0 < left)
+goes_on_lem fits left e = let b = and_both fits (ltb 0 left) e in (b.0, ltb-true 0 left b.1)
 
 module _ (staged : List Staged) (size : ℕ) (home staging : List ℕ) (group : ℕ) where
   -- the updates of the group from index i on

@@ -14,7 +14,7 @@ use Rattle.block.specs.Legal.{legal_place}
 use Rattle.block.proofs.Tests.{tests}
 use Rattle.promises.specs.declared.State.{State}
 use Rattle.promises.specs.declared.Staged.{Staged}
-use Rattle.promises.specs.Areas.{log_length, home_length, frames_length, staging_length}
+use Rattle.promises.specs.Areas.{log_length, home_length, frames_length, staging_length, pages_in}
 use Rattle.promises.specs.Contents.{groups_of, total}
 use Rattle.promises.specs.Sums.{block_count, first_groups, group_start, smallest}
 use Rattle.promises.specs.Sound.{sound, staged_of, areas_of, all_below, all_legal, sizes_legal, of_oldest}
@@ -27,7 +27,7 @@ use Rattle.promises.specs.States.{free}
 use Rattle.table.proofs.Entries.{first_below}
 use Rattle.queue.specs.Queue.{commit_done}
 use Rattle.queue.proofs.Leaving.{groups-left}
-use Rattle.logging.specs.Logging.{no_staged, size_of, staged_at, Placed, Ready}
+use Rattle.logging.specs.Logging.{no_staged, size_of, staged_at, Placed, Lent, Ready}
 
 module _ (s : State) (log home frames staging : ℕ) where
   abbrev lengths : Bool
@@ -126,6 +126,28 @@ ready s log home frames staging e =
     let q : s.queued ≡ 0 → ⊥ = a.some in
     let g = simp tests at a.fit in
     ready_by s (sound-of s a.is_sound) (omega (arith, q)) log home frames staging (omega arith) (omega arith) (omega arith) (omega arith)
+
+-- what the commit's group is applied with
+module _ (s : State) (log home frames staging : ℕ) (r : Ready s log home frames staging) where
+  pages-are : pages_in home ≡ s.pages
+  pages-are = omega (arith, r.home_long)
+
+  -- the lengths, and the group's number
+  pub lent_by : (seats : ℕ) → seats ≡ s.frames → Lent seats home frames staging (group_start s)
+  lent_by seats e = record {
+    few = omega (arith, r.frame_count);
+    pages = omega (arith, pages-are, r.pages);
+    frames_long = omega (arith, r.frames_long);
+    staging_long = omega (arith, r.staging_long);
+    started = omega (arith, r.ticket);
+    below = omega (arith, r.next);
+  }
+
+  -- each update of the group fits its page, and its bytes are in staging
+  pub placed-by-ready : (seats size : ℕ) → seats ≡ s.frames → size ≡ size_of s → (i : ℕ) → i < size → Placed (pages_in home) seats (staged_at s i)
+  placed-by-ready seats size e n i h =
+      let p : Placed s.pages s.frames (staged_at s i) = r.placed i (omega arith) in
+      record { page = omega (arith, pages-are, p.page); some = p.some; length = p.length; end = p.end; area = omega (arith, p.area) }
 
 -- the next update's store leans on the log and on staging alone
 pub ready-alone : (s : State) (log home frames staging : ℕ) → Ready s log home frames staging → Ready s log (home_length s.pages) (frames_length s.frames) staging

@@ -2,11 +2,12 @@
 // call itself stands in the store.
 #![tactic(auto)]
 
-ghost use Rattle.std.specs.Prelude.{◌≡◌, false, not, map, ℕ, ◌≤◌, ◌<◌, length, take, get_or, IfOk};
+ghost use Rattle.std.specs.Prelude.{◌≡◌, false, not, map, ℕ, ◌≤◌, ◌<◌, length, take, get_or, IfOk, is_some};
 ghost use Rattle.block.specs.Sizes.{sequence_end};
 ghost use Rattle.promises.specs.Blocks.{stored};
 ghost use Rattle.promises.specs.Contents.{waiting};
 ghost use Rattle.promises.specs.Answers.{refusal_in};
+ghost use Rattle.promises.specs.Sound.{sound};
 ghost use Rattle.soundness.specs.Summed.{Summed};
 ghost use Rattle.soundness.specs.Verdicts.{Judges};
 ghost use Rattle.promises.specs.LogStep.{log_refusal};
@@ -30,9 +31,10 @@ pub fn log_refusal(
     frames: usize,
     staging: usize,
 ) -> Result<Sums, Refusal>
-    requires { Judges state verdict }
+    requires { is_some verdict ≡ sound state }
     ensures refusal { refusal_in result ≡ log_refusal state log home frames staging }
-    ensures sums { IfOk result (Summed state) }
+    ensures most { refusal_in result ≤ 11 }
+    ensures sums { Judges state verdict → IfOk result (Summed state) }
 {
     let sums = verdict.ok_or(Refusal::NotSound)?;
     let fit = stepping::areas_fit(state, log, home, frames);

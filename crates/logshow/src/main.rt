@@ -43,10 +43,10 @@ fn read_log(files: &impl Files, log: &mut [u8]) -> usize
     size
 }
 
-fn main(rt: HostRuntime) -> std::io::Result<()> {
+fn main(rt: HostRuntime) {
     let mut log = [0; MOST];
     let mut out = [0; listing::TEXT];
     let size = read_log(&rt, &mut log);
     let end = listing::text(&log[..size], &mut out);
-    rt.write_all(&out[..end])
+    io::write_all(1, &out[..end]);
 }

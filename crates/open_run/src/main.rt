@@ -5,6 +5,7 @@
 ghost use Rattle.std.specs.Prelude.{◌≡◌, ◌≤◌, ◌<◌, length};
 
 use block::Block;
+use output::Output;
 use promises::{Outcome, State, Stop};
 use std::io;
 
@@ -210,12 +211,17 @@ fn wrapped_logs(rt: &impl Print) -> io::Result<()> {
     Ok(())
 }
 
-fn main(rt: HostRuntime) -> io::Result<()> {
-    small_logs(&rt)?;
-    damaged_logs(&rt)?;
-    damaged_ends(&rt)?;
-    other_ends(&rt)?;
-    full_log(&rt)?;
-    disordered_logs(&rt)?;
-    wrapped_logs(&rt)
+// Every line, in order.
+fn all_lines(rt: &impl Print) -> io::Result<()> {
+    small_logs(rt)?;
+    damaged_logs(rt)?;
+    damaged_ends(rt)?;
+    other_ends(rt)?;
+    full_log(rt)?;
+    disordered_logs(rt)?;
+    wrapped_logs(rt)
+}
+
+fn main() {
+    let _ = all_lines(&Output);
 }

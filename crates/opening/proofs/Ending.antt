@@ -33,6 +33,17 @@ module _ (count : ℕ) (seats : List ℕ) (h : count ≤ 32) (e : seats ≡ repl
 
 -- ---- the start
 
+-- the walk may meet the first block: it has no half group, and the ticket that is believed is below it
+pub start-ready : (log home : List ℕ) (first count ticket : ℕ) → ticket < first → Ready log home first (start_of count ticket)
+start-ready log home first count ticket h = record {
+  half = λ x. absurd (omega arith);
+  begins = λ x. absurd (omega arith);
+  few = omega arith;
+  ticket_below = h;
+  ticket_early = λ x. absurd (omega arith);
+  placed = λ i x. absurd (omega arith);
+}
+
 start-stands : (log home frames : List ℕ) (first count ticket : ℕ) → Stands log home first (start_of count ticket) frames (start_with ticket)
 unfolding updates_from
 start-stands log home frames first count ticket = record {

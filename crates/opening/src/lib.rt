@@ -68,7 +68,7 @@ fn walked(
         start: 0,
         count: 0,
     };
-    let stage = recovery::walk_all(start, seats, log, home, frames, first, last)?;
+    let stage = recovery::walk_all(Ok(start), seats, log, home, frames, first, last)?;
     recovery::last_test(seats, slots, last, last + 1)?;
     Ok(Found {
         newest: last,

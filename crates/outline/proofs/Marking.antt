@@ -1,15 +1,16 @@
--- Marks: a page that is marked already and one that is not, unmarking as a filter, and the smallest first group as a fold.
+-- Marks: a page that is marked already and one that is not, unmarking mark by mark, and the smallest first group as a fold.
 -- Assumes nothing.
 use mathlib.Core.Path.{◌≡◌, refl, ap, ◌∙◌}
-use mathlib.Core.Bool.{Bool, true, false, not, cond, ◌||◌}
-use mathlib.Core.List.{List, [], ◌∷◌, ◌++◌}
-use Prim.Native.Nat.{ℕ, ◌+◌, ◌≤◌, ◌<◌, min}
+use mathlib.Core.Bool.{Bool, true, false, cond, ◌||◌}
+use mathlib.Core.List.{List, [], ◌∷◌, ◌++◌, append-nil}
+use Prim.Native.Nat.{ℕ, suc, ◌+◌, ◌≤◌, ◌<◌, min}
 use native.Mathlib.Numerals.{add-one}
 use native.Mathlib.Omega.{arith}
 use lib.Dec.{eqb}
 use lib.ListN.{length, get_or, drop, drop_of_length-le}
-use lib.Seq.{drop-cons}
-use Rattle.std.specs.List.{list_any, filter, fold}
+use lib.Seq.{drop-cons, append_snoc}
+use borrow.Author.Tests.{eq-eqb, ne_eqb}
+use Rattle.std.specs.List.{list_any, fold}
 use Rattle.outline.specs.declared.Mark.{Mark}
 use Rattle.outline.specs.Marks.{marked, marked_all, unmarked, earliest}
 
@@ -42,15 +43,27 @@ module _ (group page : ℕ) where
 
 -- ---- unmarking a page
 
-pub unmarked-filter : (page : ℕ) (ms : List Mark) → filter (λ m. not (eqb page m.page)) ms ≡ unmarked page ms
-unfolding unmarked
-unmarked-filter page [] = refl
-unmarked-filter page (m ∷ ms) = go (eqb page m.page) (unmarked-filter page ms)
-  where
-    go : (t : Bool) → filter (λ m. not (eqb page m.page)) ms ≡ unmarked page ms
-        → cond (not t) (m ∷ filter (λ m. not (eqb page m.page)) ms) (filter (λ m. not (eqb page m.page)) ms) ≡ cond t (unmarked page ms) (m ∷ unmarked page ms)
-    go true on = on
-    go false on = ap (λ (l : List Mark). m ∷ l) on
+-- what stands past the end of a list of marks
+abbrev pub nothing : Mark
+nothing = record { page = 0; first = 0 }
+
+module _ (page : ℕ) (ms : List Mark) (i : ℕ) where
+  module _ (kept kept' : List Mark) (h : i < length ms) where
+    -- another page is kept
+    pub unmarked-keep : kept' ≡ kept ++ (get_or ms i nothing ∷ []) → (page ≡ (get_or ms i nothing).page → ⊥)
+        → kept' ++ unmarked page (drop (i + 1) ms) ≡ kept ++ unmarked page (drop i ms)
+    unfolding unmarked
+    unmarked-keep e other =
+        rw (add-one, drop-cons ms i nothing h, ne_eqb _ _ other, e) (append_snoc kept (get_or ms i nothing) (unmarked page (drop (suc i) ms)))
+
+    -- this page is not
+    pub unmarked-drop : kept' ≡ kept → page ≡ (get_or ms i nothing).page → kept' ++ unmarked page (drop (i + 1) ms) ≡ kept ++ unmarked page (drop i ms)
+    unfolding unmarked
+    unmarked-drop e same = rw (add-one, drop-cons ms i nothing h, eq-eqb _ _ same, e) refl
+
+  pub unmarked-end : (kept : List Mark) → length ms ≤ i → kept ++ unmarked page (drop i ms) ≡ kept
+  unfolding unmarked
+  unmarked-end kept h = rw (drop_of_length-le ms h) (append-nil kept)
 
 -- ---- the smallest first group
 

@@ -15,7 +15,6 @@ use Rattle.block.specs.declared.Kind.TheVariants.{Update, Commit, Clean}
 use Rattle.promises.specs.declared.Refusal.TheVariants.{TooFewFrames}
 use Rattle.promises.specs.declared.Stop.{Stop}
 use Rattle.promises.specs.Walk.{Walk}
-use Rattle.arrayvec.specs.ArrayVec.{array_vec_len}
 use Rattle.recovery.specs.Order.{counted}
 use Rattle.recovery.specs.Walking.{out_of_order_at}
 use Rattle.recovery.proofs.Ordering.{count-is, change-any, next-told}
@@ -51,16 +50,16 @@ module _ (course : Course) (kind : Kind) (ticket : ℕ) where
 
 -- the walk of which the code's test speaks
 abbrev pub counted_in : Course → Walk
-counted_in course = counted (array_vec_len course.group.pages) course.ticket
+counted_in course = counted (length course.group.pages.items) course.ticket
 
 module _ (course : Course) where
-  pub counted_is : array_vec_len course.group.pages ≡ length (counted_in course).group
-  counted_is = count-is (array_vec_len course.group.pages) course.ticket
+  pub counted_is : length course.group.pages.items ≡ length (counted_in course).group
+  counted_is = count-is (length course.group.pages.items) course.ticket
 
   -- an index that is not 1 is the next
   pub next-index : (index page ticket : ℕ) → outline_fits (outline_in course) (Update index page 0 0) ticket ≡ true → (index ≡ 1 → ⊥)
-      → index ≡ array_vec_len course.group.pages + 1
-  next-index index page ticket e n = (next-told ticket (array_vec_len course.group.pages) course.ticket index _ e n).1
+      → index ≡ length course.group.pages.items + 1
+  next-index index page ticket e n = (next-told ticket (length course.group.pages.items) course.ticket index _ e n).1
 
 -- ---- a block, as the walk meets it
 
@@ -107,14 +106,14 @@ module _ (course : Course) (ticket start : ℕ) (pages : List ℕ) (marks : List
 -- ---- the last test
 
 module _ (course : Course) (slots low : ℕ) (low-is : low ≡ earliest course.next course.marks.items) where
-  span : course.next - earliest course.next course.marks.items + array_vec_len course.marks ≡ course.next - low + array_vec_len course.marks
+  span : course.next - earliest course.next course.marks.items + length course.marks.items ≡ course.next - low + length course.marks.items
   span = rw low-is
 
-  pub ends-within : course.next - low + array_vec_len course.marks ≤ slots → sketch_in (Ok course) ≡ ended slots (sketch_in (Ok course))
+  pub ends-within : course.next - low + length course.marks.items ≤ slots → sketch_in (Ok course) ≡ ended slots (sketch_in (Ok course))
   unfolding ended
   ends-within h = rw (span, le-leb _ _ h)
 
-  pub ends-beyond : (stop : Stop) → slots < course.next - low + array_vec_len course.marks → stop ≡ out_of_order_at (course.next - 1)
+  pub ends-beyond : (stop : Stop) → slots < course.next - low + length course.marks.items → stop ≡ out_of_order_at (course.next - 1)
       → sketch_in (Err stop) ≡ ended slots (sketch_in (Ok course))
   unfolding ended
   ends-beyond stop h e = rw (e, span, lt-leb _ _ h)

@@ -11,7 +11,6 @@ use Rattle.promises.specs.Answers.{number_of}
 use Rattle.promises.specs.Blocks.{kind_in}
 use Rattle.promises.specs.Walk.{Walk, Finding, stops as finding_stops, stands as finding_stands}
 use Rattle.recovery.specs.Order.{in_order_after}
-use Rattle.arrayvec.specs.ArrayVec.{array_vec_len}
 use Rattle.outline.specs.declared.Mark.{Mark}
 use Rattle.outline.specs.declared.Course.{Course}
 use Rattle.outline.specs.Marks.{marks_of, pages_of, marked_all, unmarked, earliest}
@@ -101,8 +100,8 @@ sketch_in (Err stop) = stops (number_of stop.refusal) stop.place
 
 -- a half group has at most 16 updates, at most 32 pages are dirty, and the ticket is below 2^48
 pub record Bounded (course : Course) : Type 0 where
-  pub few : array_vec_len course.group.pages ≤ group_most
-  pub framed : array_vec_len course.marks ≤ 32
+  pub few : length course.group.pages.items ≤ group_most
+  pub framed : length course.marks.items ≤ 32
   pub ticket_below : course.ticket < sequence_end
 
 -- an update's index is at most 16

@@ -2,16 +2,19 @@
 // frames are needed for it. It knows a block's fields, the order of blocks from recovery, and nothing of a log.
 #![tactic(auto)]
 
-ghost use Rattle.std.specs.Prelude.{◌≡◌, [], ◌+◌, ◌≤◌, ◌<◌, MatchResult};
+ghost use Rattle.std.specs.Prelude.{◌≡◌, [], ◌+◌, ◌≤◌, ◌<◌, length, IfOk, MatchResult};
 ghost use Rattle.block.specs.Sizes.{sequence_end, group_most};
 ghost use Rattle.block.specs.declared.Kind.TheVariants.{Update, Commit, Clean};
-ghost use Rattle.arrayvec.specs.ArrayVec.{array_vec_len};
 ghost use Rattle.recovery.specs.Walking.{out_of_order_at};
 ghost use Rattle.outline.specs.Marks.{marked, marked_all, unmarked, earliest as earliest_of};
 ghost use Rattle.outline.specs.Outline.{step, ended, started, sketch_in, Bounded, Ordinary, Turns, Meets};
 
-use arrayvec::ArrayVec;
+mod mark_list;
+mod page_list;
+
 use block::{Block, Kind};
+pub use mark_list::Marks;
+pub use page_list::Pages;
 use promises::{Refusal, Stop};
 
 // The frames of the store whose Open the walk answers for.
@@ -27,18 +30,15 @@ pub struct Mark {
     pub first: u64,
 }
 
-// The dirty pages. There is room for a group's pages beside those of all frames: a commit that leaves too many is seen by the count.
-pub type Marks = ArrayVec<Mark, 48>;
-
 // A half group: its first sequence and its updates' pages. Start 0 and no page where there is none.
-#[derive(Drop)]
+#[derive(Clone, Copy)]
 pub struct Group {
     pub start: u64,
-    pub pages: ArrayVec<usize, GROUP>,
+    pub pages: Pages,
 }
 
 // A walk: the sequence that is next; the last committed ticket; a half group; the dirty pages.
-#[derive(Drop)]
+#[derive(Clone, Copy)]
 pub struct Course {
     pub next: u64,
     pub ticket: u64,
@@ -46,24 +46,31 @@ pub struct Course {
     pub marks: Marks,
 }
 
+// No dirty page.
+pub fn no_marks() -> Marks
+    ensures { result.items ≡ [] }
+{
+    Marks::new()
+}
+
 // A page is dirty from this group on, unless it was dirty before.
 fn mark_page(marks: &mut Marks, page: usize, group: u64)
-    requires { array_vec_len marks.old < 48 }
+    requires { length marks.old.items < 48 }
     ensures is { marks.new.items ≡ marked group page marks.old.items }
-    ensures few { array_vec_len marks.new ≤ array_vec_len marks.old + 1 }
+    ensures few { length marks.new.items ≤ length marks.old.items + 1 }
 {
-    if !marks.iter().any(|mark| page == mark.page) {
+    if !marks.as_slice().iter().any(|mark| page == mark.page) {
         marks.push(Mark { page, first: group });
     }
 }
 
 // The pages of a group are dirty.
 pub fn mark_group(marks: &mut Marks, group: &Group)
-    requires { array_vec_len marks.old ≤ 32 }
+    requires { length marks.old.items ≤ 32 }
     ensures is { marks.new.items ≡ marked_all group.now.start group.now.pages.items marks.old.items }
-    ensures few { array_vec_len marks.new ≤ 48 }
+    ensures few { length marks.new.items ≤ 48 }
 {
-    for page in group.pages.iter() {
+    for page in group.pages.as_slice() {
         mark_page(marks, *page, group.start);
     }
 }
@@ -71,9 +78,15 @@ pub fn mark_group(marks: &mut Marks, group: &Group)
 // A page is dirty no more.
 pub fn unmark_page(marks: &mut Marks, page: usize)
     ensures is { marks.new.items ≡ unmarked page marks.old.items }
-    ensures few { array_vec_len marks.new ≤ array_vec_len marks.old }
+    ensures few { length marks.new.items ≤ length marks.old.items }
 {
-    marks.retain(|mark| page != mark.page);
+    let mut kept = Marks::new();
+    for mark in marks.as_slice() {
+        if page != mark.page {
+            kept.push(*mark);
+        }
+    }
+    *marks = kept;
 }
 
 // The smallest first group, and own where there is none.
@@ -81,7 +94,10 @@ pub fn earliest(marks: &Marks, own: u64) -> u64
     ensures is { result ≡ earliest_of own marks.now.items }
     ensures most { result ≤ own }
 {
-    marks.iter().fold(own, |low, mark| low.min(mark.first))
+    marks
+        .as_slice()
+        .iter()
+        .fold(own, |low, mark| low.min(mark.first))
 }
 
 // No half group.
@@ -91,7 +107,7 @@ fn no_group() -> Group
 {
     Group {
         start: 0,
-        pages: ArrayVec::new(),
+        pages: Pages::new(),
     }
 }
 
@@ -117,7 +133,7 @@ fn walk_update(mut course: Course, index: usize, page: usize, ticket: u64) -> Re
     if index == 1 {
         course.group = Group {
             start: course.next,
-            pages: ArrayVec::new(),
+            pages: Pages::new(),
         };
     }
     course.group.pages.push(page);
@@ -163,8 +179,8 @@ fn walk_clean(mut course: Course, page: usize, ticket: u64) -> Result<Course, St
     Ok(course)
 }
 
-// The walk over a block.
-pub fn turn(course: Course, block: Block) -> Result<Course, Stop>
+// The walk over a block, by a walk that goes on.
+fn turn_on(course: Course, block: Block) -> Result<Course, Stop>
     requires { Bounded course × (course.next < sequence_end) × Ordinary block }
     ensures { (sketch_in result ≡ step 32 block (sketch_in (Ok course))) × MatchResult result (λ walked. Bounded walked × (walked.next ≡ course.next + 1)) (λ stop. stop.place ≡ course.next) }
 {
@@ -173,6 +189,14 @@ pub fn turn(course: Course, block: Block) -> Result<Course, Stop>
         Kind::Commit { updates } => walk_commit(course, updates, block.ticket),
         Kind::Clean { page } => walk_clean(course, page, block.ticket),
     }
+}
+
+// The walk over a block; nothing happens once refused.
+pub fn turn(course: Result<Course, Stop>, block: Block) -> Result<Course, Stop>
+    requires { IfOk course (λ walk. Bounded walk × (walk.next < sequence_end)) × Ordinary block }
+    ensures { (sketch_in result ≡ step 32 block (sketch_in course)) × IfOk course (λ walk. MatchResult result (λ walked. Bounded walked × (walked.next ≡ walk.next + 1)) (λ stop. stop.place ≡ walk.next)) }
+{
+    turn_on(course?, block)
 }
 
 // A walk that starts at a sequence, with the ticket of its first block.
@@ -184,12 +208,12 @@ pub fn start(sequence: u64, ticket: u64) -> Course
         next: sequence,
         ticket,
         group: no_group(),
-        marks: ArrayVec::new(),
+        marks: Marks::new(),
     }
 }
 
-// The last test: what cleaning needs is within a log of so many slots.
-pub fn last_test(course: Course, slots: u64) -> Result<Course, Stop>
+// The last test of a walk that goes on.
+fn test_on(course: Course, slots: u64) -> Result<Course, Stop>
     requires { Bounded course × (1 ≤ course.next) × (course.next ≤ sequence_end) }
     ensures { sketch_in result ≡ ended slots (sketch_in (Ok course)) }
 {
@@ -198,4 +222,13 @@ pub fn last_test(course: Course, slots: u64) -> Result<Course, Stop>
         return Err(out_of_order(course.next - 1));
     }
     Ok(course)
+}
+
+// The last test: what cleaning needs is within a log of so many slots. Nothing happens once refused.
+#[tactic(auto, unfolding(crate::specs::Outline::ended))]
+pub fn last_test(course: Result<Course, Stop>, slots: u64) -> Result<Course, Stop>
+    requires { IfOk course (λ walk. Bounded walk × (1 ≤ walk.next) × (walk.next ≤ sequence_end)) }
+    ensures { sketch_in result ≡ ended slots (sketch_in course) }
+{
+    test_on(course?, slots)
 }

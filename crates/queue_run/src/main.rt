@@ -1,6 +1,7 @@
 // Drives Format, Begin, Describe, End, Settled and Read on areas and states of its own and prints what comes out, one line a call.
 #![tactic(auto)]
 
+use output::Output;
 use promises::{Cleaning, Dirty, Refusal, State};
 use std::io;
 
@@ -232,10 +233,15 @@ fn order_lines(rt: &impl Print) -> io::Result<()> {
     Ok(())
 }
 
-fn main(rt: HostRuntime) -> io::Result<()> {
-    format_lines(&rt)?;
-    queue_lines(&rt)?;
-    case_lines(&rt)?;
-    order_lines(&rt)?;
+// Every line, in order.
+fn all_lines(rt: &impl Print) -> io::Result<()> {
+    format_lines(rt)?;
+    queue_lines(rt)?;
+    case_lines(rt)?;
+    order_lines(rt)?;
     Ok(())
+}
+
+fn main() {
+    let _ = all_lines(&Output);
 }

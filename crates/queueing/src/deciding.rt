@@ -1,8 +1,9 @@
 // What each call is refused with; tested in the order that docs/CALLS.md gives.
-ghost use Rattle.std.specs.Prelude.{◌≡◌, ◌+◌, ◌≤◌, leb, IfOk};
+ghost use Rattle.std.specs.Prelude.{◌≡◌, ◌+◌, ◌≤◌, leb, IfOk, is_some};
 ghost use Rattle.block.specs.Sizes.{sequence_end};
 ghost use Rattle.promises.specs.Answers.{refusal_in};
 ghost use Rattle.promises.specs.Sums.{waiting_blocks};
+ghost use Rattle.promises.specs.Sound.{sound, readable};
 ghost use Rattle.promises.specs.Format.{format_refusal};
 ghost use Rattle.promises.specs.Begin.{begin_in_range, begin_has_room, begin_refusal};
 ghost use Rattle.promises.specs.Describe.{describe_refusal};
@@ -10,7 +11,7 @@ ghost use Rattle.promises.specs.End.{end_refusal};
 ghost use Rattle.promises.specs.Settled.{settled_refusal};
 ghost use Rattle.promises.specs.Read.{read_refusal};
 ghost use Rattle.soundness.specs.Summed.{Summed, Small};
-ghost use Rattle.soundness.specs.Verdicts.{Judges, JudgesAs};
+ghost use Rattle.soundness.specs.Verdicts.{Judges};
 
 use block::Block;
 use promises::{Refusal, State};
@@ -18,7 +19,8 @@ use soundness::sums::Sums;
 
 // Format, of the log's length: 1.
 pub fn format_refusal(length: usize) -> Result<(), Refusal>
-    ensures { refusal_in result ≡ format_refusal length }
+    ensures refusal { refusal_in result ≡ format_refusal length }
+    ensures most { refusal_in result ≤ 11 }
 {
     let slots = length / Block::SIZE;
     if (slots * Block::SIZE == length) & (8 <= slots) & (slots <= 1024) {
@@ -58,7 +60,8 @@ fn begin_has_room(state: State, sums: Sums, u: usize) -> bool
 // Begin, of the verdict on the state and of u: 2; 3; 4; 6; 5.
 pub fn begin_refusal(verdict: Option<Sums>, state: State, u: usize) -> Result<(), Refusal>
     requires { Judges state verdict }
-    ensures { refusal_in result ≡ begin_refusal state u }
+    ensures refusal { refusal_in result ≡ begin_refusal state u }
+    ensures most { refusal_in result ≤ 11 }
 {
     let sums = verdict.ok_or(Refusal::NotSound)?;
     if !begin_in_range(state, u) {
@@ -86,9 +89,10 @@ pub fn describe_refusal(
     offset: usize,
     count: usize,
 ) -> Result<Sums, Refusal>
-    requires { Judges state verdict }
+    requires { is_some verdict ≡ sound state }
     ensures refusal { refusal_in result ≡ describe_refusal state staging page offset count }
-    ensures sums { IfOk result (Summed state) }
+    ensures most { refusal_in result ≤ 11 }
+    ensures sums { Judges state verdict → IfOk result (Summed state) }
 {
     let sums = verdict.ok_or(Refusal::NotSound)?;
     if staging != state.frames * Block::NEW_BYTES {
@@ -108,8 +112,9 @@ pub fn describe_refusal(
 
 // End, of the verdict on the state: 2; 4; 10.
 pub fn end_refusal(verdict: Option<Sums>, state: State) -> Result<(), Refusal>
-    requires { Judges state verdict }
-    ensures { refusal_in result ≡ end_refusal state }
+    requires { is_some verdict ≡ sound state }
+    ensures refusal { refusal_in result ≡ end_refusal state }
+    ensures most { refusal_in result ≤ 11 }
 {
     verdict.ok_or(Refusal::NotSound)?;
     if state.reserved == 0 {
@@ -123,8 +128,9 @@ pub fn end_refusal(verdict: Option<Sums>, state: State) -> Result<(), Refusal>
 
 // Settled, of the verdict on the state, a desk's or a copy's, and of a ticket: 2; 3.
 pub fn settled_refusal(verdict: Option<Sums>, state: State, ticket: u64) -> Result<(), Refusal>
-    requires { JudgesAs state.copy state verdict }
-    ensures { refusal_in result ≡ settled_refusal state ticket }
+    requires { is_some verdict ≡ readable state }
+    ensures refusal { refusal_in result ≡ settled_refusal state ticket }
+    ensures most { refusal_in result ≤ 11 }
 {
     verdict.ok_or(Refusal::NotSound)?;
     let last = state.ticket + state.queued as u64;
@@ -142,8 +148,9 @@ pub fn read_refusal(
     frames: usize,
     page: usize,
 ) -> Result<(), Refusal>
-    requires { JudgesAs state.copy state verdict }
-    ensures { refusal_in result ≡ read_refusal state home frames page }
+    requires { is_some verdict ≡ readable state }
+    ensures refusal { refusal_in result ≡ read_refusal state home frames page }
+    ensures most { refusal_in result ≤ 11 }
 {
     verdict.ok_or(Refusal::NotSound)?;
     let right = (home == state.pages * Block::PAGE) & (frames == state.frames * Block::PAGE);

@@ -1,12 +1,14 @@
 -- The updates of a group, read from their slots.
 -- Assumes nothing.
 use mathlib.Core.Path.{◌≡◌, refl, sym, ap, ◌∙◌, subst}
-use mathlib.Core.Bool.{true}
+use mathlib.Core.Bool.{Bool, true, ◌&&◌}
 use mathlib.Core.List.{List, [], ◌∷◌, ◌++◌}
 use Prim.Native.Nat.{ℕ, zero, suc, ◌+◌, ◌-◌, ◌≤◌, ◌<◌}
 use native.Mathlib.Omega.{arith}
+use lib.Dec.{ltb}
 use lib.ListN.{length}
-use Rattle.area.proofs.Laws.{never_both}
+use borrow.Author.Tests.{ltb-true}
+use Rattle.area.proofs.Laws.{and_both, never_both}
 use Rattle.block.specs.declared.Kind.{Kind}
 use Rattle.block.specs.declared.Kind.TheVariants.{Update, Commit, Clean}
 use Rattle.promises.specs.Updates as change
@@ -78,6 +80,10 @@ pub left-none : (log : List ℕ) (table : Table) (home frames : List ℕ) (start
 left-none log table home frames start count i t frames₁ h f =
     f t frames₁
     (subst (λ (us : List change.Update). AppliesAll t home frames₁ us start t frames₁) (sym (group-end log start i count h)) (applies-none t home frames₁ start))
+
+-- a group goes on while every page found a frame and an update is left
+pub goes_on_lem : (fits : Bool) (i count : ℕ) → (fits && ltb i count) ≡ true → (fits ≡ true) × (i < count)
+goes_on_lem fits i count e = let b = and_both fits (ltb i count) e in (b.0, ltb-true i count b.1)
 
 -- a page found no frame: nothing happens any more
 pub left-full : (table t : Table) (home frames frames₁ : List ℕ) (us rest : List change.Update) (group : ℕ) → t.full ≡ true

@@ -1,10 +1,11 @@
 -- What a walk leads to, turn by turn: the finding of the promised walk.
 -- Assumes nothing.
-use mathlib.Core.Path.{◌≡◌, sym, ap, ◌∙◌, subst}
+use mathlib.Core.Path.{◌≡◌, refl, sym, ap, ◌∙◌, subst}
 use mathlib.Core.Bool.{true, false}
 use mathlib.Core.List.{List, ◌∷◌}
 use Prim.Native.Nat.{ℕ, suc, ◌+◌, ◌-◌, ◌≤◌, ◌<◌}
 use native.Mathlib.Omega.{arith}
+use native.Mathlib.Decide.{ℕ_discrete}
 use Rattle.area.proofs.Laws.{by_cases}
 use Rattle.promises.specs.Areas.{page_at}
 use Rattle.promises.specs.Blocks.{LogBlock}
@@ -38,11 +39,16 @@ leads-refused log home slots next s more walk frames found refusal place h r e =
 }
 
 -- one turn
-pub leads-turn : (log home : List ℕ) (slots next s more : ℕ) (walk r : Walk) (frames frames' : List ℕ) (found : Finding) → walk.refusal ≡ 0
+pub leads-turn : (log home : List ℕ) (slots next s more : ℕ) (walk r : Walk) (frames frames' : List ℕ) (found : Finding)
     → Turns log home s (block_of log s).kind (block_of log s).ticket walk frames r frames'
     → Leads log home slots next s (suc more) walk frames found → Leads log home slots next (suc s) more r frames' found
 unfolding blocks_from
-leads-turn log home slots next s more walk r frames frames' found z t l = going (l.goes z).0 (l.goes z).1 (l.goes z).2
+leads-turn log home slots next s more walk r frames frames' found t l =
+    elim (ℕ_discrete walk.refusal 0) [
+      | yes z ↦ going (l.goes z).0 (l.goes z).1 (l.goes z).2
+      | no n ↦ subst (λ (w : Walk). Leads log home slots next (suc s) more w frames' found) (sym (t.stays n))
+          record { refused = λ m. l.refused n; goes = λ z. absurd (n z) }
+    ]
   where
     rest : List LogBlock
     rest = blocks_from log (suc s) more
@@ -74,12 +80,12 @@ Leading log home first last walk₀ frames₀ s walk frames =
     (slots next : ℕ) (found : Finding) → Leads log home slots next first (last + 1 - first) walk₀ frames₀ found
     → Leads log home slots next s (last + 1 - s) walk frames found
 
-pub leading-more : (log home : List ℕ) (first last : ℕ) (walk₀ : Walk) (frames₀ : List ℕ) (s : ℕ) (walk r : Walk) (frames frames' : List ℕ) → walk.refusal ≡ 0 → s ≤ last
+pub leading-more : (log home : List ℕ) (first last : ℕ) (walk₀ : Walk) (frames₀ : List ℕ) (s : ℕ) (walk r : Walk) (frames frames' : List ℕ) → s ≤ last
     → Turns log home s (block_of log s).kind (block_of log s).ticket walk frames r frames' → Leading log home first last walk₀ frames₀ s walk frames
     → Leading log home first last walk₀ frames₀ (s + 1) r frames'
-leading-more log home first last walk₀ frames₀ s walk r frames frames' z h t f slots next found l =
+leading-more log home first last walk₀ frames₀ s walk r frames frames' h t f slots next found l =
     subst (λ (n : ℕ). Leads log home slots next n (last + 1 - (s + 1)) r frames' found) one
-    (leads-turn log home slots next s (last + 1 - (s + 1)) walk r frames frames' found z t
+    (leads-turn log home slots next s (last + 1 - (s + 1)) walk r frames frames' found t
     (subst (λ (n : ℕ). Leads log home slots next s n walk frames found) left (f slots next found l)))
   where
     one : suc s ≡ s + 1
@@ -109,4 +115,12 @@ walks-stopped log home first last walk₀ frames₀ s walk frames n c f = record
   count_is = c;
   ready = λ z. absurd (n z);
   leads = λ slots next found l. record { refused = λ m. (f slots next found l).refused n; goes = λ z. absurd (n z) };
+}
+
+-- a walk that was refused before stays so: no block is walked over
+pub walks-refused : (log home : List ℕ) (first last : ℕ) (walk : Walk) (frames : List ℕ) → (walk.refusal ≡ 0 → ⊥) → Walks log home first last walk frames walk frames
+walks-refused log home first last walk frames n = record {
+  count_is = refl;
+  ready = λ z. absurd (n z);
+  leads = λ slots next found l. record { refused = λ m. l.refused n; goes = λ z. absurd (n z) };
 }

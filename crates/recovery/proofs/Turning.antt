@@ -228,6 +228,7 @@ module _ (log home : List ℕ) (s : ℕ) (walk : Walk) (frames : List ℕ) (v : 
       ready = ready-then taken;
       out_of_order = λ paper st h. refuses paper st taken h;
       too_few = λ paper st h g. absurd (never_both _ (framed-always paper) g);
+      stays = λ n. absurd (n z);
       goes_on = λ paper st h g. goes paper st taken h;
     }
 
@@ -296,6 +297,7 @@ module _ (log home : List ℕ) (s : ℕ) (walk : Walk) (frames : List ℕ) (v : 
       ready = ready-cleaned cleaned;
       out_of_order = λ paper st h. refuses-clean paper st cleaned h;
       too_few = λ paper st h g. absurd (never_both _ (framed-clean paper) g);
+      stays = λ n. absurd (n z);
       goes_on = λ paper st h g. goes-clean paper st cleaned h;
     }
 
@@ -403,6 +405,7 @@ module _ (log home : List ℕ) (s : ℕ) (walk : Walk) (frames : List ℕ) (v : 
       ready = ready-committed committed;
       out_of_order = λ paper st h. refuses-commit paper st committed h;
       too_few = λ paper st h g. lacks-frames paper st committed h g;
+      stays = λ n. absurd (n z);
       goes_on = λ paper st h g. goes-commit paper st committed h g;
     }
 

@@ -127,9 +127,10 @@ pub record Refused (walk : Walk) (refusal place : ℕ) : Type 0 where
   pub refusal_is : walk.refusal ≡ refusal
   pub place_is : walk.place ≡ place
 
--- what the block of a sequence makes of a walk that goes on: 8, then 9, then the promised walk's turn
+-- what the block of a sequence makes of a walk: nothing once refused; 8, then 9, then the promised walk's turn
 pub record Turns (log home : List ℕ) (sequence : ℕ) (kind : Kind) (ticket : ℕ) (walk : Walk) (frames : List ℕ) (result : Walk) (frames' : List ℕ) : Type 0 where
   pub count_is : result.table.count ≡ walk.table.count
+  pub stays : (walk.refusal ≡ 0 → ⊥) → result ≡ walk
   pub ready : result.refusal ≡ 0 → Ready log home (suc sequence) result
   pub out_of_order : (paper : PaperWalk) → Stands log home sequence walk frames paper → in_order kind ticket paper ≡ false → Refused result 8 sequence
   pub too_few : (paper : PaperWalk) → Stands log home sequence walk frames paper → in_order kind ticket paper ≡ true

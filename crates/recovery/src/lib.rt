@@ -294,8 +294,8 @@ fn turn(
     }
 }
 
-// The blocks from first to last are walked over. The slot goes round beside the sequence.
-pub fn walk_all(
+// The blocks from first to last are walked over, by a walk that goes on. The slot goes round beside the sequence.
+fn walk_on(
     mut stage: Stage,
     seats: &mut [u64],
     log: &[u8],
@@ -316,8 +316,24 @@ pub fn walk_all(
     Ok(stage)
 }
 
+// The blocks from first to last are walked over; nothing happens to a walk that was refused before.
+pub fn walk_all(
+    stage: Result<Stage, Stop>,
+    seats: &mut [u64],
+    log: &[u8],
+    home: &[u8],
+    frames: &mut [u8],
+    first: u64,
+    last: u64,
+) -> Result<Stage, Stop>
+    requires { (length seats.old ≤ 32) × (length frames.old ≡ length seats.old * page_size) × (block_size ≤ length log.now) × (pages_in (length home.now) ≤ 4096) × (first ≤ last + 1) × (last < sequence_end) × ((s : ℕ) → first ≤ s → s ≤ last → Legal log.now home.now s) × ((walk_of stage seats.old).refusal ≡ 0 → Ready log.now home.now first (walk_of stage seats.old)) }
+    ensures { Walks log.now home.now first last (walk_of stage seats.old) frames.old (walk_of result seats.new) frames.new }
+{
+    walk_on(stage?, seats, log, home, frames, first, last)
+}
+
 // Whether H + D is at most the count of slots; an own number, a half group's start or next, counts beside the first groups.
-fn span_fits(seats: &[u64], slots: usize, next: u64, own: u64) -> bool
+pub fn span_fits(seats: &[u64], slots: usize, next: u64, own: u64) -> bool
     requires { (length seats.now ≤ 32) × (slots ≤ 1024) × (next ≤ sequence_end) × (own ≤ next) }
     ensures { result ≡ span_fits (seated false seats.now) slots next own }
 {

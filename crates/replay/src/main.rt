@@ -6,6 +6,7 @@ mod desk;
 mod lines;
 
 use desk::Desk;
+use output::Output;
 use script::Reading;
 use std::io;
 use std::io::Read;
@@ -48,8 +49,8 @@ fn replay<R: Read>(rt: &impl Print, input: &mut R, desk: &mut Desk) -> io::Resul
     }
 }
 
-fn main(rt: HostRuntime) -> io::Result<()> {
+fn main(rt: HostRuntime) {
     let mut input = rt.reader();
     let mut desk = Desk::bare();
-    replay(&rt, &mut input, &mut desk)
+    let _ = replay(&Output, &mut input, &mut desk);
 }

@@ -2,8 +2,6 @@
 -- Assumes nothing.
 use Rattle.std.specs.Prelude.{Ok, ℕ, ◌+◌, ◌≤◌, ◌<◌, ◌≡◌, cond, List, length, get_or, eqb}
 use Rattle.block.specs.Sizes.{sequence_end}
-use Rattle.replica.specs.declared.Next.{Next}
-use Rattle.replica.specs.declared.Next.TheVariants.{FirstHalf, SecondHalf, Block}
 use Rattle.promises.specs.declared.State.{State}
 use Rattle.promises.specs.declared.Dirty.{Dirty}
 use Rattle.promises.specs.declared.Cleaning.{Cleaning}
@@ -31,12 +29,6 @@ made_of Idle page = 0
 made_of (First named) page = 0
 made_of (Second named) page = names_page named page 1
 made_of (Third named) page = names_page named page 2
-
--- how many stores of its page come before each
-abbrev pub made_before : Next → ℕ
-made_before FirstHalf = 0
-made_before SecondHalf = 1
-made_before Block = 2
 
 -- the block is taken
 abbrev pub taken_with : State → ℕ → List Dirty → ℕ → Outcome Fed Stop

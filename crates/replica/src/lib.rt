@@ -12,20 +12,13 @@ ghost use Rattle.promises.specs.Blocks.{clean, kind_in};
 ghost use Rattle.promises.specs.CopyOpen.{OpensCopy};
 ghost use Rattle.promises.specs.Feed.{store_of, feeding, Feeds};
 ghost use Rattle.feeding.specs.Tests.{block_in};
-ghost use Rattle.replica.specs.Taking.{made_before, made_of, taken_with, Closing, Closes};
+ghost use Rattle.cleaning.specs.Cleans.{made_before};
+ghost use Rattle.replica.specs.Taking.{made_of, taken_with, Closing, Closes};
 
 use block::{Block, Kind};
-use cleaning::Choice;
+use cleaning::{Choice, Next};
 use feeding::Decision;
 use promises::{Cleaning, Dirty, Fed, Outcome, State, Stop};
-
-// The store that a clean block of a dirty page makes next: a half of the page at home, or the block's own.
-#[derive(Clone, Copy)]
-enum Next {
-    FirstHalf,
-    SecondHalf,
-    Block,
-}
 
 // The store that is next for this page: the first half, unless the cleaning names the page and has stored more.
 fn next_store(cleaning: Cleaning, page: usize) -> Next

@@ -1,11 +1,11 @@
 -- Filling an area from the front, each byte by a rule on its index.
 -- Assumes nothing.
-use mathlib.Core.Path.{◌≡◌, ap}
+use mathlib.Core.Path.{◌≡◌, refl, ap}
 use mathlib.Core.List.{List, [], ◌∷◌, ◌++◌}
 use Prim.Native.Nat.{ℕ, zero, suc, ◌+◌, ◌*◌, ◌%◌, ◌<◌}
 use native.Mathlib.Omega.{arith}
 use native.Mathlib.Numerals.{add-one}
-use lib.ListN.{length, take, set}
+use lib.ListN.{length, take, set, replicate}
 use lib.Seq.{take-suc-set}
 use Rattle.script.specs.Fills.{listed}
 
@@ -23,6 +23,12 @@ pub fill-turn : (rule : ℕ → ℕ) (area : List ℕ) (i value : ℕ) → i < l
 fill-turn rule area i value h e v =
     let z : 0 + i ≡ i = omega arith in
     rw (add-one, take-suc-set, e, v, ← listed-snoc rule 0 i) (rw z)
+
+-- the rule that gives one value
+pub listed-one : (value index count : ℕ) → listed (λ i. value) index count ≡ replicate count value
+unfolding listed
+listed-one value index zero = refl
+listed-one value index (suc count) = ap (λ (l : List ℕ). value ∷ l) (listed-one value (suc index) count)
 
 -- Describe's byte after another: 13 more
 pub described-next : (seed j value : ℕ) → value ≡ (seed + 13 * j) % 256 → (value + 13) % 256 ≡ (seed + 13 * (j + 1)) % 256

@@ -6,7 +6,7 @@ use mathlib.Core.List.{List, [], ◌∷◌}
 use Prim.Native.Nat.{ℕ, ◌+◌, ◌*◌, ◌-◌, ◌^◌, ◌≤◌, ◌<◌}
 use native.Mathlib.Omega.{arith}
 use lib.Dec.{ltb}
-use borrow.Author.Tests.{lt-ltb, le-ltb}
+use borrow.Author.Tests.{le-leb, lt-ltb, le-ltb}
 use Rattle.script.specs.Lines.{is_digit, all_digits, spelled_from, is_number_from}
 
 -- ---- tests
@@ -26,6 +26,10 @@ third-fails true true c e = e
 third-fails true false c e = refl
 third-fails false true c e = refl
 third-fails false false c e = refl
+
+-- `0` to `9` are digits
+pub is_digit_lem : (byte : ℕ) → 48 ≤ byte → byte ≤ 57 → is_digit byte ≡ true
+is_digit_lem byte l h = rw (le-leb 48 byte l, le-leb byte 57 h)
 
 -- ---- numbers
 

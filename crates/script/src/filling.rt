@@ -17,9 +17,9 @@ pub fn home_bytes(home: &mut [u8])
 pub fn describe_bytes(bytes: &mut [u8], seed: u64)
     ensures { bytes.new ≡ described_of seed (length bytes.old) }
 {
-    let mut value = (seed % 256) as u8;
+    let mut value = seed % 256;
     for byte in bytes.iter_mut() {
-        *byte = value;
-        value = value.wrapping_add(13);
+        *byte = value as u8;
+        value = (value + 13) % 256;
     }
 }

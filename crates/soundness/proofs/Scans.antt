@@ -7,7 +7,7 @@ use Prim.Native.Nat.{ℕ, ◌+◌, ◌≤◌, ◌<◌, min}
 use native.Mathlib.Omega.{arith}
 use native.Mathlib.Numerals.{add-one}
 use lib.ListN.{length, take, drop, get_or, set, length-map, drop_of_length-le}
-use lib.Seq.{drop-cons, take-suc-set}
+use lib.Seq.{drop-cons, get_or-take, length-take-le, take-suc-set}
 use borrow.Author.Tests.{eq-eqb, ne_eqb}
 use Rattle.promises.specs.declared.Dirty.{Dirty}
 use Rattle.promises.specs.declared.Staged.{Staged}
@@ -21,10 +21,23 @@ use Rattle.soundness.specs.Tests.{entry_legal, entries_legal, no_staged, staged_
 pub length-mapped : (X Y : Type 0) (f : X → Y) (l : List X) (n : ℕ) → length (map f l) ≡ n → length l ≡ n
 length-mapped X Y f l n h = sym (length-map l f) ∙ h
 
--- ---- what is left of a list
+-- ---- what is left of a list, and of its first n elements
 module _ {A : Type 0} where
   pub from_cons : (l : List A) (i : ℕ) (d : A) → i < length l → drop i l ≡ get_or l i d ∷ drop (i + 1) l
   from_cons l i d h = rw (add-one, drop-cons l i d h)
+
+  -- of the first n: an element is left
+  pub rest-cons : (l : List A) (n i : ℕ) (d : A) → i < n → n ≤ length l → drop i (take n l) ≡ get_or l i d ∷ drop (i + 1) (take n l)
+  rest-cons l n i d h k =
+      let e : length (take n l) ≡ n = length-take-le n l k in
+      rw (add-one, drop-cons (take n l) i d (omega arith), get_or-take n l i d h)
+
+  -- of the first n: none is left
+  pub rest_end : (l : List A) (n i : ℕ) → n ≤ i → n ≤ length l → drop i (take n l) ≡ []
+  rest_end l n i h k =
+      let e : length (take n l) ≡ n = length-take-le n l k in
+      let f : length (take n l) ≤ i = omega arith in
+      drop_of_length-le (take n l) f
 
 -- ---- dirty pages
 

@@ -1,4 +1,5 @@
--- What a verdict tells: whether the state is sound, and where the call goes on, the sums.
+-- What a verdict tells: whether the state is sound, and where the call goes on, the sums. Where only is known that it has sums of a sound
+-- state, it tells the first.
 -- Assumes nothing.
 use mathlib.Core.Path.{◌≡◌, sym, subst, ap}
 use mathlib.Core.Bool.{Bool, true, false}
@@ -28,3 +29,14 @@ pub judged_err : (copy : Bool) (s : State) (verdict : Option Sums) (refusal : Re
     → (sound_as copy s ≡ false) × (number_of refusal ≡ 2)
 judged_err copy s None refusal h e = let same : NotSound ≡ refusal = cc in (h, ap number_of (sym same))
 judged_err copy s (Some x) refusal h e = absurd cc
+
+-- ---- where only is known whether there are sums
+
+pub told_ok : {b : Bool} (verdict : Option Sums) (sums : Sums) → is_some verdict ≡ b → ok_or {E = Refusal} verdict NotSound ≡ Ok sums → b ≡ true
+told_ok None sums h e = absurd cc
+told_ok (Some x) sums h e = sym h
+
+pub told_err : {b : Bool} (verdict : Option Sums) (refusal : Refusal) → is_some verdict ≡ b → ok_or {E = Refusal} verdict NotSound ≡ Err refusal
+    → (b ≡ false) × (number_of refusal ≡ 2)
+told_err None refusal h e = let same : NotSound ≡ refusal = cc in (sym h, ap number_of (sym same))
+told_err (Some x) refusal h e = absurd cc

@@ -3,6 +3,7 @@
 #![tactic(auto)]
 
 use block::{Block, Judged, Kind};
+use output::Output;
 use promises::{Cleaning, Dirty, Logged, Staged, State};
 use std::io;
 
@@ -297,7 +298,8 @@ fn not_sound(
     Ok(())
 }
 
-fn main(rt: HostRuntime) -> io::Result<()> {
+// Every line, in order.
+fn all_lines(rt: &impl Print) -> io::Result<()> {
     let mut log = [0; 4096];
     let mut home = [7; 4096];
     let mut frames = [9; 2048];
@@ -305,14 +307,18 @@ fn main(rt: HostRuntime) -> io::Result<()> {
     staging[0] = 42;
     staging[472] = 50;
     staging[473] = 51;
-    let dirty = life_logged(&rt, &mut log, &home, &mut frames, &staging)?;
-    let clean = life_cleaned(&rt, dirty, &mut log, &mut home, &frames)?;
+    let dirty = life_logged(rt, &mut log, &home, &mut frames, &staging)?;
+    let clean = life_cleaned(rt, dirty, &mut log, &mut home, &frames)?;
     let mut short_log = [0; 3584];
-    life_over(&rt, clean, &mut log, &mut short_log, &mut home, &frames)?;
-    wrapped(&rt, &mut log, &home, &mut frames, &staging)?;
-    overtaken(&rt, &mut log, &mut home, &mut frames, &staging)?;
-    taken(&rt, &mut log, &mut home, &frames)?;
-    used_up(&rt, &mut log, &mut home, &frames)?;
-    not_sound(&rt, &mut log, &mut home, &mut frames, &staging)?;
+    life_over(rt, clean, &mut log, &mut short_log, &mut home, &frames)?;
+    wrapped(rt, &mut log, &home, &mut frames, &staging)?;
+    overtaken(rt, &mut log, &mut home, &mut frames, &staging)?;
+    taken(rt, &mut log, &mut home, &frames)?;
+    used_up(rt, &mut log, &mut home, &frames)?;
+    not_sound(rt, &mut log, &mut home, &mut frames, &staging)?;
     Ok(())
+}
+
+fn main() {
+    let _ = all_lines(&Output);
 }

@@ -54,5 +54,5 @@ pub fn store_half(home: &mut [u8], to: usize, frames: &[u8], from: usize)
     requires { (to + block_size ≤ length home.old) × (from + block_size ≤ length frames.now) }
     ensures { home.new ≡ splice home.old to block_size (part frames.now from block_size) }
 {
-    area::copy_part(home, to, frames, from, Block::SIZE);
+    home[to..to + Block::SIZE].copy_from_slice(&frames[from..from + Block::SIZE]);
 }

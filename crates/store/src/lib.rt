@@ -33,6 +33,7 @@ ghost use Rattle.promises.specs.Settled.{Settles};
 ghost use Rattle.queueing.specs.Queueing.{update_of};
 
 use block::Block;
+use cleaning::Next;
 use promises::{Cleaning, Dirty, Logged, Outcome, Page, Refusal, Staged, State, Stop};
 use queueing::{deciding, finding};
 
@@ -95,8 +96,10 @@ pub fn begin(state: State, u: usize) -> Outcome<(), Refusal>
 fn reserve(state: &mut State, u: usize) -> Result<(), Refusal>
     ensures { Begins state.old u (record { state = state.new; answer = result }) }
 {
-    let verdict = soundness::checked_as(*state, false);
-    deciding::begin_refusal(verdict, *state, u)?;
+    // One copy serves both tests, for speed.
+    let before = *state;
+    let verdict = soundness::checked_as(before, false);
+    deciding::begin_refusal(verdict, before, u)?;
     state.reserved = u;
     state.described = 0;
     Ok(())
@@ -296,18 +299,18 @@ fn clean_next(
     let verdict = soundness::checked_as(*state, false);
     let sums = cleaning::clean_refusal(verdict, *state, log.len(), home.len(), frames.len())?;
     let choice = cleaning::frame_to_clean(*state, sums.dirty);
-    match state.cleaning {
-        Cleaning::Third(_) => {
+    match cleaning::next_store(state.cleaning) {
+        Next::Block => {
             cleaning::store_clean(*state, sums.dirty, log, frames, choice);
             state.dirty[choice.frame] = Dirty { page: 0, first: 0 };
             state.next += 1;
             state.cleaning = Cleaning::Idle;
         }
-        Cleaning::Second(_) => {
+        Next::SecondHalf => {
             cleaning::store_second(home, frames, choice);
             state.cleaning = Cleaning::Third(choice.entry.page);
         }
-        _ => {
+        Next::FirstHalf => {
             cleaning::store_first(home, frames, choice);
             state.cleaning = Cleaning::Second(choice.entry.page);
         }

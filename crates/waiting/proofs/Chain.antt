@@ -31,7 +31,8 @@ pub record Turn (left : State → ℕ) (w : World) (a : Reply) (w' : World) : Ty
   pub less : left w'.state + 1 ≡ left w.state
   pub few : left w.state ≤ 1024
 
-log-turned : (w : World) (a : Reply) (w' : World) (st : Logging w a w') → number_in (log_answered st.result.answer) ≡ 0 → Turn waiting_blocks w a w'
+-- of an accepted Log step
+pub log-turned : (w : World) (a : Reply) (w' : World) (st : Logging w a w') → number_in (log_answered st.result.answer) ≡ 0 → Turn waiting_blocks w a w'
 log-turned w a w' st e =
     let s = w.state in
     let passed = log-passed w (sym (log-number s w.log w.home w.frames w.staging st.result st.log' st.frames' st.promise) ∙ e) in
@@ -39,7 +40,8 @@ log-turned w a w' st e =
     let turn = log-turn w a w' st passed in
     record { yes = turn.accepted; less = turn.less; few = omega (arith, f.slot_sum, f.slots) }
 
-clean-turned : (w : World) (a : Reply) (w' : World) (st : Cleaning w a w') → number_in (answered st.result.answer) ≡ 0 → Turn stores_left w a w'
+-- of an accepted Clean step
+pub clean-turned : (w : World) (a : Reply) (w' : World) (st : Cleaning w a w') → number_in (answered st.result.answer) ≡ 0 → Turn stores_left w a w'
 clean-turned w a w' st e =
     let s = w.state in
     let passed = clean-passed w (sym (number_by _ _ _ st.promise.answer_is refl) ∙ e) in
@@ -56,7 +58,8 @@ pub record Turns (call : Call) (left : State → ℕ) (calls : ℕ) (w₀ w : Wo
 pub few-calls : (call : Call) (left : State → ℕ) (calls : ℕ) (w₀ w : World) → Turns call left calls w₀ w → calls ≤ 1024
 few-calls call left calls w₀ w g = ⊎_elim (λ (z : calls ≡ 0). omega arith) (λ (h : calls + left w.state ≤ 1024). omega arith) g.few
 
-turns_next : (call : Call) (left : State → ℕ) (calls : ℕ) (w₀ w w' : World) (a : Reply) → Turns call left calls w₀ w
+-- one call more is accepted
+pub turns_next : (call : Call) (left : State → ℕ) (calls : ℕ) (w₀ w w' : World) (a : Reply) → Turns call left calls w₀ w
     → Step call w a w' → Turn left w a w' → Turns call left (calls + 1) w₀ w'
 turns_next call left calls w₀ w w' a g st t = record {
   on = λ n k w'' c.

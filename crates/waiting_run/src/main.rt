@@ -4,6 +4,7 @@
 #![tactic(auto)]
 
 use block::Block;
+use output::Output;
 use promises::State;
 use std::io;
 
@@ -223,7 +224,12 @@ fn small_runs(rt: &impl Print) -> io::Result<()> {
     runs(rt, &mut log, &mut home, &mut frames, &mut staging, &short)
 }
 
-fn main(rt: HostRuntime) -> io::Result<()> {
-    longest_waits(&rt)?;
-    small_runs(&rt)
+// Every line, in order.
+fn all_lines(rt: &impl Print) -> io::Result<()> {
+    longest_waits(rt)?;
+    small_runs(rt)
+}
+
+fn main() {
+    let _ = all_lines(&Output);
 }

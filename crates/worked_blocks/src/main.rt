@@ -6,6 +6,7 @@ ghost use Rattle.std.specs.Prelude.{◌≤◌, length};
 ghost use Rattle.block.specs.Sizes.{new_bytes_most};
 
 use block::{Block, Judged};
+use output::Output;
 use std::io;
 
 const SLOTS: u64 = 8;
@@ -66,20 +67,20 @@ fn show_same_check(rt: &impl Print) -> io::Result<()> {
     show(rt, 13, &slot, 1)
 }
 
-fn main(rt: HostRuntime) -> io::Result<()> {
-    show(&rt, 1, &[0; Block::SIZE], 1)?;
-    show(
-        &rt,
-        2,
-        &written(Block::update(1, 1, 1, 0, 0, 1, 0), b"*"),
-        1,
-    )?;
-    show(&rt, 3, &written(Block::commit(2, 1, 1, 1), b""), 2)?;
-    show(&rt, 4, &written(Block::clean(3, 3, 0, 1), b""), 3)?;
-    show_place(&rt, 552)?;
-    show_place(&rt, 553)?;
+// Every line, in order.
+fn all_lines(rt: &impl Print) -> io::Result<()> {
+    show(rt, 1, &[0; Block::SIZE], 1)?;
+    show(rt, 2, &written(Block::update(1, 1, 1, 0, 0, 1, 0), b"*"), 1)?;
+    show(rt, 3, &written(Block::commit(2, 1, 1, 1), b""), 2)?;
+    show(rt, 4, &written(Block::clean(3, 3, 0, 1), b""), 3)?;
+    show_place(rt, 552)?;
+    show_place(rt, 553)?;
     let eighth = written(Block::clean(8, 8, 0, 1), b"");
-    show(&rt, 9, &eighth, 0)?;
-    show(&rt, 9, &eighth, 1)?;
-    show_same_check(&rt)
+    show(rt, 9, &eighth, 0)?;
+    show(rt, 9, &eighth, 1)?;
+    show_same_check(rt)
+}
+
+fn main() {
+    let _ = all_lines(&Output);
 }

@@ -39,11 +39,11 @@ returns-in_err-third_refusal-clause-refusal c =
     let sums = (judged_ok false c.args.state c.args.verdict _ c.requires (sym c.ok_or.ensures.value ∙ c.in_ok-sums.was)) in
     refused-with _ _ c.from_residual-in_err-third_refusal.ensures.1
     ∙ by_tests a.state a.log a.home a.frames true true false _ (sym sums.0) (sym c.if-not-areas_fit.false ∙ c.areas_fit.ensures)
-    (sym (ne_eqb _ _ (λ e. c.if-sums-eq0.false (sums.1.dirty ∙ e)))) (sym (ap refusal_in c.in_err-third_refusal.was) ∙ c.third_refusal.ensures)
+    (sym (ne_eqb _ _ (λ e. c.if-sums-eq0.false (sums.1.dirty ∙ e)))) (sym (ap refusal_in c.in_err-third_refusal.was) ∙ c.third_refusal.ensures.refusal)
 
 pub returns-clause-refusal : goal.returns-clause-refusal
 returns-clause-refusal c =
     let a = c.args in
     let sums = (judged_ok false c.args.state c.args.verdict _ c.requires (sym c.ok_or.ensures.value ∙ c.in_ok-sums.was)) in
     by_tests a.state a.log a.home a.frames true true false _ (sym sums.0) (sym c.if-not-areas_fit.false ∙ c.areas_fit.ensures)
-    (sym (ne_eqb _ _ (λ e. c.if-sums-eq0.false (sums.1.dirty ∙ e)))) (sym (ap refusal_in c.in_ok-third_refusal.was) ∙ c.third_refusal.ensures)
+    (sym (ne_eqb _ _ (λ e. c.if-sums-eq0.false (sums.1.dirty ∙ e)))) (sym (ap refusal_in c.in_ok-third_refusal.was) ∙ c.third_refusal.ensures.refusal)

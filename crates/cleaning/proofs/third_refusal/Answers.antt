@@ -4,5 +4,5 @@ use mathlib.Core.Path.{sym, ap, ◌∙◌}
 use Rattle.promises.specs.CleanStep.{third_refusal}
 use Rattle.cleaning.proofs.third_refusal.Goals as goal
 
-pub returns-in-Third : goal.returns-in-Third
-returns-in-Third c = c.block_refusal.ensures ∙ sym (ap (third_refusal c.args.state) c.in-Third.is)
+pub returns-in-Third-clause-refusal : goal.returns-in-Third-clause-refusal
+returns-in-Third-clause-refusal c = c.block_refusal.ensures.refusal ∙ sym (ap (third_refusal c.args.state) c.in-Third.is)

@@ -11,13 +11,11 @@ use borrow.Author.Tests.{eq-eqb, ne_eqb, eqb-true}
 use Rattle.area.proofs.Laws.{and_both}
 use Rattle.block.proofs.ReadBack.{valid-holds}
 use Rattle.promises.specs.declared.State.{State}
-use Rattle.promises.specs.Areas.{page_at}
-use Rattle.promises.specs.Blocks.{slots_of}
 use Rattle.promises.specs.LogStep.{areas_fit}
 use Rattle.promises.specs.Sound.{copy_sound}
 use Rattle.feeding.specs.Tests.{Decides}
 use Rattle.feeding.proofs.Testing.{numbers_of}
-use Rattle.feeding.proofs.Deciding.{stopped-at, no_copy, misfit, judged-as, bad}
+use Rattle.feeding.proofs.Deciding.{stopped-at, no_copy, misfit, judged-as}
 use native.Mathlib.Omega.{arith}
 use Rattle.feeding.proofs.decide.Goals as goal
 
@@ -68,13 +66,19 @@ decide_valid-requires c =
     let held = valid-holds a.state.slots a.state.pages _ a.bytes.now _ (sym c.judge_fed.ensures ∙ c.in-Valid.is) in
     (sound, long, held.is-legal)
 
-pub returns-in_default : goal.returns-in_default
-returns-in_default c = λ home frames e f.
+pub returns-in-Unused : goal.returns-in-Unused
+returns-in-Unused c = λ home frames e f.
     let a = c.args in
     let sound : copy_sound a.state ≡ true = sym c.requires ∙ c.if-not-holds.false in
     judged-as a.state a.log.now home frames a.bytes.now sound (lengths-are a.state a.log.now home frames a.bytes.now a.home a.frames c.areas_fit-fit.result c.areas_fit-fit.ensures e f ∙ fits-both c.areas_fit-fit.result _ c.if-not-fit.false (eq-eqb _ _ c.if-bytes-ne-SIZE.false)) _
-    (sym c.judge_fed.ensures) ∙ bad a.state (page_at home) frames (slots_of a.state.slots a.state.pages a.log.now) c.judge_fed.result a.bytes.now c.in_default.not-Valid
-    ∙ ap stopped-at (sym c.nowhere-in_default.ensures)
+    (sym c.judge_fed.ensures ∙ c.in-Unused.is) ∙ ap stopped-at (sym c.nowhere-in-Unused.ensures)
+
+pub returns-in-Damaged : goal.returns-in-Damaged
+returns-in-Damaged c = λ home frames e f.
+    let a = c.args in
+    let sound : copy_sound a.state ≡ true = sym c.requires ∙ c.if-not-holds.false in
+    judged-as a.state a.log.now home frames a.bytes.now sound (lengths-are a.state a.log.now home frames a.bytes.now a.home a.frames c.areas_fit-fit.result c.areas_fit-fit.ensures e f ∙ fits-both c.areas_fit-fit.result _ c.if-not-fit.false (eq-eqb _ _ c.if-bytes-ne-SIZE.false)) _
+    (sym c.judge_fed.ensures ∙ c.in-Damaged.is) ∙ ap stopped-at (sym c.nowhere-in-Damaged.ensures)
 
 pub returns-in-Valid : goal.returns-in-Valid
 returns-in-Valid c = λ home frames e f.

@@ -3,7 +3,6 @@
 use mathlib.Core.Path.{◌≡◌, refl, sym, ap, ◌∙◌}
 use native.Mathlib.Omega.{arith}
 use lib.ListN.{length}
-use Rattle.arrayvec.specs.ArrayVec.{array_vec_len}
 use Rattle.block.specs.declared.Kind.TheVariants.{Clean}
 use Rattle.recovery.proofs.Ordering.{clean-told}
 use Rattle.outline.specs.Outline.{seated, outline_fits, outline_in}
@@ -25,5 +24,5 @@ returns c =
     let fits : c.clean_fits.result ≡ outline_fits (outline_in a.course) (Clean a.page) a.ticket = c.clean_fits.ensures (counted_in a.course) a.page refl in
     let right = sym fits ∙ c.if-not-clean_fits.false in
     turned_on a.course (Clean a.page) a.ticket right _ refl refl
-    (after-clean a.course _ _ _ _ g.is g.start a.page (clean-told a.ticket (array_vec_len a.course.group.pages) a.course.ticket a.page right) m.is)
+    (after-clean a.course _ _ _ _ g.is g.start a.page (clean-told a.ticket (length a.course.group.pages.items) a.course.ticket a.page right) m.is)
     (record { few = omega (arith, ap length g.is); framed = omega (arith, m.few, c.requires.bounded.framed); ticket_below = c.requires.ticket_below })

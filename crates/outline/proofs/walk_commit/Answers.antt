@@ -4,7 +4,6 @@ use mathlib.Core.Path.{◌≡◌, refl, sym, ap, ◌∙◌}
 use native.Mathlib.Omega.{arith}
 use lib.ListN.{length}
 use borrow.Author.Tests.{lt-leb, le-leb}
-use Rattle.arrayvec.specs.ArrayVec.{array_vec_len}
 use Rattle.block.specs.declared.Kind.TheVariants.{Commit}
 use Rattle.recovery.proofs.Ordering.{commit-told}
 use Rattle.outline.specs.Outline.{seated, committed, outline_fits, outline_in}
@@ -40,5 +39,5 @@ returns c =
     let right = sym fits ∙ c.if-not-commit_fits.false in
     turned_on a.course (Commit a.updates) a.ticket right _ refl
     (le-leb (length (committed (outline_in a.course))) 32 (omega (arith, ap length m.is, c.len.ensures.value, c.if-len-gt-FRAMES.false)))
-    (after-commit a.course _ _ _ _ g.is g.start a.updates (commit-told a.ticket (array_vec_len a.course.group.pages) a.course.ticket a.updates right).1 m.is)
+    (after-commit a.course _ _ _ _ g.is g.start a.updates (commit-told a.ticket (length a.course.group.pages.items) a.course.ticket a.updates right).1 m.is)
     (record { few = omega (arith, ap length g.is); framed = omega (arith, c.len.ensures.value, c.if-len-gt-FRAMES.false); ticket_below = p.ticket_below })

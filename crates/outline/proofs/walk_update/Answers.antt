@@ -5,7 +5,6 @@ use mathlib.Core.List.{List, [], ◌∷◌, ◌++◌}
 use Prim.Native.Nat.{ℕ, ◌+◌}
 use native.Mathlib.Omega.{arith}
 use lib.ListN.{length}
-use Rattle.arrayvec.specs.ArrayVec.{array_vec_len}
 use Rattle.block.specs.declared.Kind.TheVariants.{Update}
 use Rattle.recovery.proofs.Ordering.{update-told}
 use Rattle.outline.specs.declared.Course.{Course}
@@ -25,13 +24,11 @@ pub push-requires : goal.push-requires
 push-requires c =
     let a = c.args in
     let fits : c.update_fits.result ≡ outline_fits (outline_in a.course) (Update a.index a.page 0 0) a.ticket =
-    c.update_fits.ensures (counted_in a.course) _ (c.len-count.ensures.value ∙ counted_is a.course) refl in (
-      omega arith,
-      elim c.if-index-eq1.branch [
-        | then-index-eq1 w ↦ omega (arith, ap (λ (x : Course). array_vec_len x.group.pages) w.course-is, ap length w.new.ensures)
-        | else-index-eq1 w ↦ omega (arith, ap (λ (x : Course). array_vec_len x.group.pages) w.course-is, next-index a.course a.index a.page a.ticket (sym fits ∙ c.if-not-update_fits.false) w.if-index-eq1.false, c.requires.indexed)
-      ],
-    )
+    c.update_fits.ensures (counted_in a.course) _ (c.len-count.ensures.value ∙ counted_is a.course) refl in
+    elim c.if-index-eq1.branch [
+      | then-index-eq1 w ↦ omega (arith, ap (λ (x : Course). length x.group.pages.items) w.course-is, ap length w.new.ensures)
+      | else-index-eq1 w ↦ omega (arith, ap (λ (x : Course). length x.group.pages.items) w.course-is, next-index a.course a.index a.page a.ticket (sym fits ∙ c.if-not-update_fits.false) w.if-index-eq1.false, c.requires.indexed)
+    ]
 
 pub returns : goal.returns
 unfolding seated
@@ -42,7 +39,7 @@ returns c =
     let fits : c.update_fits.result ≡ outline_fits (outline_in a.course) (Update a.index a.page 0 0) a.ticket =
     c.update_fits.ensures (counted_in a.course) _ (c.len-count.ensures.value ∙ counted_is a.course) refl in
     let right = sym fits ∙ c.if-not-update_fits.false in
-    let ticket = update-told a.ticket (array_vec_len a.course.group.pages) a.course.ticket a.index _ right in
+    let ticket = update-told a.ticket (length a.course.group.pages.items) a.course.ticket a.index _ right in
     elim c.if-index-eq1.branch [
       | then-index-eq1 w ↦
           let pages = c.push.ensures.items ∙ ap (λ (x : Course). x.group.pages.items ++ (a.page ∷ [])) w.course-is ∙ ap (λ (l : List ℕ). l ++ (a.page ∷ [])) w.new.ensures in
@@ -50,7 +47,7 @@ returns c =
           (after_first a.course _ _ _ _ a.index a.page ticket (ap (λ (x : Course). x.marks.items) w.course-is) w.if-index-eq1.true pages (ap (λ (x : Course). x.group.start) w.course-is))
           (record {
             few = omega (arith, ap length pages);
-            framed = omega (arith, ap (λ (x : Course). array_vec_len x.marks) w.course-is, p.bounded.framed);
+            framed = omega (arith, ap (λ (x : Course). length x.marks.items) w.course-is, p.bounded.framed);
             ticket_below = p.ticket_below;
           })
       | else-index-eq1 w ↦
@@ -58,8 +55,8 @@ returns c =
           turned_on a.course (Update a.index a.page 0 0) a.ticket right _ (ap (λ (x : Course). x.next + 1) w.course-is) refl
           (after_next a.course _ _ _ _ a.index a.page ticket (ap (λ (x : Course). x.marks.items) w.course-is) w.if-index-eq1.false pages (ap (λ (x : Course). x.group.start) w.course-is))
           (record {
-            few = omega (arith, c.push.ensures.len, ap (λ (x : Course). array_vec_len x.group.pages) w.course-is, next-index a.course a.index a.page a.ticket right w.if-index-eq1.false, p.indexed);
-            framed = omega (arith, ap (λ (x : Course). array_vec_len x.marks) w.course-is, p.bounded.framed);
+            few = omega (arith, c.push.ensures.len, ap (λ (x : Course). length x.group.pages.items) w.course-is, next-index a.course a.index a.page a.ticket right w.if-index-eq1.false, p.indexed);
+            framed = omega (arith, ap (λ (x : Course). length x.marks.items) w.course-is, p.bounded.framed);
             ticket_below = p.ticket_below;
           })
     ]

@@ -12,7 +12,7 @@ use Rattle.promises.specs.Feed.{store_of, feeding}
 use Rattle.promises.proofs.CopyFacts.{readable-copy}
 use Rattle.table.proofs.Scans.{length-mapped}
 use Rattle.feeding.specs.Tests.{block_in}
-use Rattle.replica.specs.Taking.{made_before}
+use Rattle.cleaning.specs.Cleans.{made_before}
 use Rattle.replica.proofs.Taking.{take-needs}
 use Rattle.replica.proofs.Cleaning.{Fits, fits, page-fits, takes-gone, feeds-gone, fitting, takes-third, feeds-third, feeds-half-one, feeds-half-two}
 use native.Mathlib.Omega.{arith}

@@ -2,15 +2,12 @@
 -- Assumes nothing.
 use mathlib.Core.Path.{◌≡◌, refl, sym, ap, ◌∙◌}
 use mathlib.Core.Logic.{inl, inr}
-use Prim.Native.Nat.{ℕ}
 use native.Mathlib.Omega.{arith}
 use lib.ListN.{length}
 use Rattle.std.specs.Prelude.{Ok}
-use Rattle.promises.specs.declared.Cleaning.{Cleaning}
-use Rattle.promises.specs.declared.Cleaning.TheVariants.{Idle, First, Second, Third}
 use Rattle.promises.proofs.Soundness.{sound-of}
 use Rattle.table.proofs.Scans.{length-mapped}
-use Rattle.cleaning.specs.Cleans.{stores_made}
+use Rattle.cleaning.specs.Cleans.{made_before}
 use Rattle.cleaning.proofs.Decision.{accepted}
 use Rattle.cleaning.proofs.Stepped.{fitting, first_made, second-made, third-ready, block_made, steps-by}
 use Rattle.store.proofs.Handed.{same-number, not-zero}
@@ -40,7 +37,7 @@ store_second-requires c =
 pub store_clean-requires : goal.store_clean-requires
 store_clean-requires c =
     let a = c.args in
-    let ready = third-ready a.state.now a.log.now a.home.now a.frames.now (sym c.in_ok-sums.ensures.refusal) _ c.frame_to_clean-choice.ensures.0 (ap stores_made c.in-Third.is) in
+    let ready = third-ready a.state.now a.log.now a.home.now a.frames.now (sym c.in_ok-sums.ensures.refusal) _ c.frame_to_clean-choice.ensures.0 (sym c.next_store.ensures ∙ ap made_before c.in-Block.is) in
     (ready.0, ready.1, ready.2, ready.3, c.frame_to_clean-choice.ensures.1, c.in_ok-sums.ensures.sums.dirty)
 
 pub offset_bounds-state-choice : goal.offset_bounds-state-choice
@@ -52,34 +49,27 @@ bounds-state-choice c = omega (arith, c.frame_to_clean-choice.ensures.0.below, (
 pub overflow_add-state : goal.overflow_add-state
 overflow_add-state c =
     let a = c.args in
-    let h = (third-ready a.state.now a.log.now a.home.now a.frames.now (sym c.in_ok-sums.ensures.refusal) _ c.frame_to_clean-choice.ensures.0 (ap stores_made c.in-Third.is)).3 in omega arith
+    let h = (third-ready a.state.now a.log.now a.home.now a.frames.now (sym c.in_ok-sums.ensures.refusal) _ c.frame_to_clean-choice.ensures.0 (sym c.next_store.ensures ∙ ap made_before c.in-Block.is)).3 in omega arith
 
-pub returns-in-Second : goal.returns-in-Second
-returns-in-Second c =
+pub returns-in-SecondHalf : goal.returns-in-SecondHalf
+returns-in-SecondHalf c =
     let a = c.args in
     let s = a.state.now in
     steps-by s a.log.now a.home.now a.frames.now _ (Ok tt) _ _ c.in_ok-sums.ensures.refusal
-    (inl (refl, second-made s a.log.now a.home.now a.frames.now (sym c.in_ok-sums.ensures.refusal) _ c.frame_to_clean-choice.ensures.0 _ _ (ap stores_made c.in-Second.is) _ c.frame_to_clean-choice.ensures.1 _ _ refl refl c.store_second.ensures))
+    (inl (refl, second-made s a.log.now a.home.now a.frames.now (sym c.in_ok-sums.ensures.refusal) _ c.frame_to_clean-choice.ensures.0 _ _ (sym c.next_store.ensures ∙ ap made_before c.in-SecondHalf.is) _ c.frame_to_clean-choice.ensures.1 _ _ refl refl c.store_second.ensures))
 
-pub returns-in-Third : goal.returns-in-Third
-returns-in-Third c =
+pub returns-in-Block : goal.returns-in-Block
+returns-in-Block c =
     let a = c.args in
     let s = a.state.now in
     let long : length s.dirty ≡ 32 = search (rules, length-mapped) in
     steps-by s a.log.now a.home.now a.frames.now _ (Ok tt) _ _ c.in_ok-sums.ensures.refusal
-    (inl (refl, block_made s a.log.now a.home.now a.frames.now (sym c.in_ok-sums.ensures.refusal) _ c.frame_to_clean-choice.ensures.0 long _ _ (ap stores_made c.in-Third.is) _ _ refl c.store_clean.ensures refl))
+    (inl (refl, block_made s a.log.now a.home.now a.frames.now (sym c.in_ok-sums.ensures.refusal) _ c.frame_to_clean-choice.ensures.0 long _ _ (sym c.next_store.ensures ∙ ap made_before c.in-Block.is) _ _ refl c.store_clean.ensures refl))
 
--- at any other store a cleaning has made none
-none-made : (c : Cleaning) → ((page : ℕ) → c ≡ Third page → ⊥) → ((page : ℕ) → c ≡ Second page → ⊥) → (stores_made c ≡ 2 → ⊥) × (stores_made c ≡ 1 → ⊥)
-none-made Idle third second = (λ e. omega (arith, e), λ e. omega (arith, e))
-none-made (First page) third second = (λ e. omega (arith, e), λ e. omega (arith, e))
-none-made (Second page) third second = absurd (second page refl)
-none-made (Third page) third second = absurd (third page refl)
-
-pub returns-in_default : goal.returns-in_default
-returns-in_default c =
+pub returns-in-FirstHalf : goal.returns-in-FirstHalf
+returns-in-FirstHalf c =
     let a = c.args in
     let s = a.state.now in
-    let none = none-made s.cleaning c.in_default.not-Third c.in_default.not-Second in
+    let none = sym c.next_store.ensures ∙ ap made_before c.in-FirstHalf.is in
     steps-by s a.log.now a.home.now a.frames.now _ (Ok tt) _ _ c.in_ok-sums.ensures.refusal
-    (inl (refl, first_made s a.log.now a.home.now a.frames.now (sym c.in_ok-sums.ensures.refusal) _ c.frame_to_clean-choice.ensures.0 _ _ none.0 none.1 _ c.frame_to_clean-choice.ensures.1 _ _ refl refl c.store_first.ensures))
+    (inl (refl, first_made s a.log.now a.home.now a.frames.now (sym c.in_ok-sums.ensures.refusal) _ c.frame_to_clean-choice.ensures.0 _ _ (λ e. omega (arith, none, e)) (λ e. omega (arith, none, e)) _ c.frame_to_clean-choice.ensures.1 _ _ refl refl c.store_first.ensures))

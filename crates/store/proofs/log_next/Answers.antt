@@ -23,7 +23,7 @@ returns-in_err-sums c =
     (sym (passed-on _ refusal c.from_residual.ensures.1)) (log-refused a.state.now a.log.now a.home.now a.frames.now a.staging.now refusal c.in_err-sums.ensures.refusal)
 
 pub overflow_sub-keep_from : goal.overflow_sub-keep_from
-overflow_sub-keep_from c = let h = held-within c.args.state.now _ c.in_ok-sums.ensures.sums in omega arith
+overflow_sub-keep_from c = let h = held-within c.args.state.now _ (c.in_ok-sums.ensures.sums c.checked_as-verdict.ensures) in omega arith
 
 pub store_update-requires : goal.store_update-requires
 store_update-requires c =
@@ -35,7 +35,7 @@ overflow_add-state c = let n = (ready c.args.state.now (length c.args.log.now) (
 pub returns-then-state-size : goal.returns-then-state-size
 returns-then-state-size c =
     let a = c.args in
-    update-steps a.state.now a.log.now a.home.now a.frames.now a.staging.now (sym c.in_ok-sums.ensures.refusal) _ (kept_from_lem a.state.now _ c.in_ok-sums.ensures.sums) _
+    update-steps a.state.now a.log.now a.home.now a.frames.now a.staging.now (sym c.in_ok-sums.ensures.refusal) _ (kept_from_lem a.state.now _ (c.in_ok-sums.ensures.sums c.checked_as-verdict.ensures)) _
     (omega (arith, c.group_size-size.ensures, c.if-state-size.true)) c.store_update.ensures
 
 pub store_commit-dirty-requires : goal.store_commit-dirty-requires
@@ -62,6 +62,6 @@ returns c =
     let s = a.state.now in
     let g = c.group_size-size.ensures in
     let long : length s.dirty ≡ 32 = search (rules, length-mapped) in
-    commit-steps s a.log.now a.home.now a.frames.now a.staging.now (sym c.in_ok-sums.ensures.refusal) _ (kept_from_lem s _ c.in_ok-sums.ensures.sums) _ _ _ _ _ _ _ _ long g
+    commit-steps s a.log.now a.home.now a.frames.now a.staging.now (sym c.in_ok-sums.ensures.refusal) _ (kept_from_lem s _ (c.in_ok-sums.ensures.sums c.checked_as-verdict.ensures)) _ _ _ _ _ _ _ _ long g
     c.shifted-staged.ensures c.shifted-groups.ensures c.cleaning_left-cleaning.ensures
     (omega (arith, g, c.if-state-size.false)) refl c.store_commit-dirty.ensures

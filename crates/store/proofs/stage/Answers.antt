@@ -24,10 +24,10 @@ returns-in_err-sums c =
     (inr (not-zero test.result _ _ c.in_err-sums.was c.from_residual.ensures.1, refl, refl))
 
 pub overflow_add-count : goal.overflow_add-count
-overflow_add-count c = let k = (describable c.args.state.now (length c.args.staging.now) c.args.page c.args.offset (length c.args.bytes.now) (search rules) (sym c.in_ok-sums.ensures.refusal)) in omega (arith, c.in_ok-sums.ensures.sums.queued)
+overflow_add-count c = let k = (describable c.args.state.now (length c.args.staging.now) c.args.page c.args.offset (length c.args.bytes.now) (search rules) (sym c.in_ok-sums.ensures.refusal)) in omega (arith, (c.in_ok-sums.ensures.sums c.checked_as-verdict.ensures).queued)
 
 pub free_area-area-requires : goal.free_area-area-requires
-free_area-area-requires c = let k = (describable c.args.state.now (length c.args.staging.now) c.args.page c.args.offset (length c.args.bytes.now) (search rules) (sym c.in_ok-sums.ensures.refusal)) in omega (arith, c.in_ok-sums.ensures.sums.queued)
+free_area-area-requires c = let k = (describable c.args.state.now (length c.args.staging.now) c.args.page c.args.offset (length c.args.bytes.now) (search rules) (sym c.in_ok-sums.ensures.refusal)) in omega (arith, (c.in_ok-sums.ensures.sums c.checked_as-verdict.ensures).queued)
 
 pub copy_part-requires : goal.copy_part-requires
 copy_part-requires c = let k = (describable c.args.state.now (length c.args.staging.now) c.args.page c.args.offset (length c.args.bytes.now) (search rules) (sym c.in_ok-sums.ensures.refusal)) in omega (arith, c.from-start.ensures, c.free_area-area.ensures.0)
@@ -42,10 +42,10 @@ pub overflow_cast-state-3 : goal.overflow_cast-state-3
 overflow_cast-state-3 c = let k = (describable c.args.state.now (length c.args.staging.now) c.args.page c.args.offset (length c.args.bytes.now) (search rules) (sym c.in_ok-sums.ensures.refusal)) in omega arith
 
 pub offset_bounds-state-count : goal.offset_bounds-state-count
-offset_bounds-state-count c = let k = (describable c.args.state.now (length c.args.staging.now) c.args.page c.args.offset (length c.args.bytes.now) (search rules) (sym c.in_ok-sums.ensures.refusal)) in omega (arith, c.in_ok-sums.ensures.sums.queued)
+offset_bounds-state-count c = let k = (describable c.args.state.now (length c.args.staging.now) c.args.page c.args.offset (length c.args.bytes.now) (search rules) (sym c.in_ok-sums.ensures.refusal)) in omega (arith, (c.in_ok-sums.ensures.sums c.checked_as-verdict.ensures).queued)
 
 pub bounds-state-count : goal.bounds-state-count
-bounds-state-count c = let k = (describable c.args.state.now (length c.args.staging.now) c.args.page c.args.offset (length c.args.bytes.now) (search rules) (sym c.in_ok-sums.ensures.refusal)) in omega (arith, c.in_ok-sums.ensures.sums.queued)
+bounds-state-count c = let k = (describable c.args.state.now (length c.args.staging.now) c.args.page c.args.offset (length c.args.bytes.now) (search rules) (sym c.in_ok-sums.ensures.refusal)) in omega (arith, (c.in_ok-sums.ensures.sums c.checked_as-verdict.ensures).queued)
 
 pub overflow_add-state : goal.overflow_add-state
 overflow_add-state c = let k = (describable c.args.state.now (length c.args.staging.now) c.args.page c.args.offset (length c.args.bytes.now) (search rules) (sym c.in_ok-sums.ensures.refusal)) in omega arith
@@ -54,7 +54,7 @@ pub returns : goal.returns
 returns c =
     let a = c.args in
     let s = a.state.now in
-    let counted : c.in_ok-sums.sums.queued + s.described ≡ total (groups_of s) + s.described = ap (λ (n : ℕ). n + s.described) c.in_ok-sums.ensures.sums.queued in
+    let counted : c.in_ok-sums.sums.queued + s.described ≡ total (groups_of s) + s.described = ap (λ (n : ℕ). n + s.described) (c.in_ok-sums.ensures.sums c.checked_as-verdict.ensures).queued in
     let unheld = ap (λ (n : ℕ). member c.free_area-area.result (areas_of (take n s.staged))) (sym counted) ∙ c.free_area-area.ensures.1 in
     let long : length s.staged ≡ 32 = search (rules, length-mapped) in
     describe-by (Ok tt) s (update_of a.page a.offset a.bytes.now) a.staging.now _ _ c.in_ok-sums.ensures.refusal

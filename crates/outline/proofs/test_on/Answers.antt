@@ -1,8 +1,8 @@
--- `outline::last_test` meets its contract: within the slots, or beyond them.
+-- `outline::test_on` meets its contract: within the slots, or beyond them.
 -- Assumes nothing.
 use native.Mathlib.Omega.{arith}
 use Rattle.outline.proofs.Turning.{ends-within, ends-beyond}
-use Rattle.outline.proofs.last_test.Goals as goal
+use Rattle.outline.proofs.test_on.Goals as goal
 
 pub returns-then-slots-course : goal.returns-then-slots-course
 returns-then-slots-course c =

@@ -1,4 +1,4 @@
--- `recovery::walk_all` meets its contract: what the walk leads to stays the same, turn by turn. The slot goes round beside the sequence.
+-- `recovery::walk_on` meets its contract: what the walk leads to stays the same, turn by turn. The slot goes round beside the sequence.
 use Prim.Native.Nat.{◌≤◌, ◌+◌}
 use Rattle.std.specs.Prelude.{Ok}
 use mathlib.Core.Path.{◌≡◌}
@@ -7,7 +7,7 @@ use Rattle.block.specs.Legal.{slot_of}
 use Rattle.promises.specs.Areas.{slots_in}
 use Rattle.recovery.specs.Walking.{walk_of, Ready}
 use Rattle.recovery.proofs.Leading.{Leading}
-use Rattle.recovery.proofs.walk_all.Given as goal
+use Rattle.recovery.proofs.walk_on.Given as goal
 
 abbrev pub invariant-loop-s : goal.invariant-loop-s
 invariant-loop-s l =

@@ -1,11 +1,11 @@
--- `outline::turn` meets its contract, kind by kind.
+-- `outline::turn_on` meets its contract, kind by kind.
 -- Assumes nothing.
 use mathlib.Core.Path.{sym, ap, ◌∙◌}
 use Rattle.block.specs.declared.Kind.TheVariants.{Update}
 use Rattle.block.specs.declared.Kind.{Kind}
 use Rattle.outline.specs.Outline.{turned, outline_in}
 use Rattle.outline.proofs.Turning.{step-turns, turned-update}
-use Rattle.outline.proofs.turn.Goals as goal
+use Rattle.outline.proofs.turn_on.Goals as goal
 
 pub returns-in-Update : goal.returns-in-Update
 returns-in-Update c =
