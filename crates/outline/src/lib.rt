@@ -3,7 +3,7 @@
 #![tactic(auto)]
 
 ghost use Rattle.std.specs.Prelude.{◌≡◌, [], ◌+◌, ◌≤◌, ◌<◌, length, IfOk, MatchResult};
-ghost use Rattle.block.specs.Sizes.{sequence_end, group_most};
+ghost use Rattle.block.specs.Sizes.{sequence_end};
 ghost use Rattle.block.specs.declared.Kind.TheVariants.{Update, Commit, Clean};
 ghost use Rattle.recovery.specs.Walking.{out_of_order_at};
 ghost use Rattle.outline.specs.Marks.{marked, marked_all, unmarked, earliest as earliest_of};

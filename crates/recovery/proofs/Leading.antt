@@ -1,6 +1,6 @@
 -- What a walk leads to, turn by turn: the finding of the promised walk.
 -- Assumes nothing.
-use mathlib.Core.Path.{◌≡◌, refl, sym, ap, ◌∙◌, subst}
+use mathlib.Core.Path.{◌≡◌, sym, ap, ◌∙◌, subst}
 use mathlib.Core.Bool.{true, false}
 use mathlib.Core.List.{List, ◌∷◌}
 use Prim.Native.Nat.{ℕ, suc, ◌+◌, ◌-◌, ◌≤◌, ◌<◌}
@@ -115,12 +115,4 @@ walks-stopped log home first last walk₀ frames₀ s walk frames n c f = record
   count_is = c;
   ready = λ z. absurd (n z);
   leads = λ slots next found l. record { refused = λ m. (f slots next found l).refused n; goes = λ z. absurd (n z) };
-}
-
--- a walk that was refused before stays so: no block is walked over
-pub walks-refused : (log home : List ℕ) (first last : ℕ) (walk : Walk) (frames : List ℕ) → (walk.refusal ≡ 0 → ⊥) → Walks log home first last walk frames walk frames
-walks-refused log home first last walk frames n = record {
-  count_is = refl;
-  ready = λ z. absurd (n z);
-  leads = λ slots next found l. record { refused = λ m. l.refused n; goes = λ z. absurd (n z) };
 }

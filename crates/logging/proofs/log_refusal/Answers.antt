@@ -1,12 +1,10 @@
 -- `logging::log_refusal` meets its contract: each test is that of `log_refusal`, in its order.
 -- Assumes nothing.
-use mathlib.Core.Path.{◌≡◌, refl, sym, ap, ◌∙◌}
+use mathlib.Core.Path.{refl, sym, ap, ◌∙◌}
 use mathlib.Core.Bool.{Bool, true, false, ◌&&◌}
 use Prim.Native.Nat.{◌*◌}
 use lib.Dec.{eqb}
 use borrow.Author.Tests.{eq-eqb, ne_eqb}
-use Rattle.promises.specs.declared.State.{State}
-use Rattle.promises.specs.Sound.{sound}
 use Rattle.promises.proofs.Replies.{refused-with}
 use Rattle.promises.proofs.Soundness.{Sound, sound-of}
 use Rattle.soundness.proofs.Verdicts.{told_ok, told_err}
